@@ -1,0 +1,9 @@
+pub mod Parts
+pub mod Reading
+pub mod Loops
+pub mod Writing
+pub mod Small
+pub mod Issued
+pub mod Planning
+pub mod Storing
+pub mod Laws

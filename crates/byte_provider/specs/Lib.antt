@@ -1,0 +1,9 @@
+pub mod Held
+pub mod Values
+pub mod Plans
+pub mod Writing
+pub mod Reads
+pub mod State
+pub mod Planned
+pub mod Outcome
+pub mod Example

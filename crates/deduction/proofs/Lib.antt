@@ -1,0 +1,5 @@
+pub mod Members
+pub mod Derive
+pub mod Compose
+pub mod Fresh
+pub mod Cases

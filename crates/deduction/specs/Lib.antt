@@ -1,0 +1,5 @@
+pub mod Term
+pub mod Derive
+pub mod Compose
+pub mod Cases
+pub mod Theorems
