@@ -3,3 +3,4 @@ pub mod Derive
 pub mod Compose
 pub mod Fresh
 pub mod Cases
+pub mod Decide

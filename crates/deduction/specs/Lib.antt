@@ -1,4 +1,5 @@
 pub mod Term
+pub mod Decide
 pub mod Derive
 pub mod Compose
 pub mod Cases

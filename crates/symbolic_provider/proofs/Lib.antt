@@ -1,0 +1,5 @@
+pub mod Issued
+pub mod Done
+pub mod Making
+pub mod Parts
+pub mod Laws

@@ -1,0 +1,4 @@
+pub mod Values
+pub mod State
+pub mod Outcome
+pub mod Makings

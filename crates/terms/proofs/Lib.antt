@@ -1,0 +1,9 @@
+pub mod Trees
+pub mod Formed
+pub mod Grow
+pub mod Insert
+pub mod Determined
+pub mod Composed
+pub mod Missing
+pub mod Within
+pub mod Listed

@@ -1,0 +1,5 @@
+pub mod Node
+pub mod Tree
+pub mod Outcome
+pub mod Held
+pub mod Listed
