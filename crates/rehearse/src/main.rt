@@ -10,6 +10,8 @@ use passage::rehearse;
 use provider::Handle;
 use provider::ProviderError;
 use std::io;
+use symbolic_provider::SymbolicProvider;
+use symbolic_provider::SymbolicProviderImpl;
 
 // The bytes that a handle stands for, as a listener on the radio would hear them.
 fn print_bytes(rt: &LibcRuntime, provider: &ByteProvider, handle: Handle) -> io::Result<()> {
@@ -39,44 +41,71 @@ fn print_plan(rt: &LibcRuntime) -> io::Result<()> {
     Ok(())
 }
 
-fn print_actions(rt: &LibcRuntime, provider: &ByteProvider, done: Rehearsal) -> io::Result<()> {
+// The verdict on what somebody opened.
+fn verdict(is_plan: bool) -> &'static str {
+    if is_plan {
+        "it is the plan"
+    } else {
+        "it is not the plan"
+    }
+}
+
+fn print_sealing(rt: &LibcRuntime, done: Rehearsal) -> io::Result<()> {
     print_plan(rt)?;
     println!(
         rt,
-        "station: tries its key: {}",
-        if done.tried {
-            "the plan opens again"
-        } else {
-            "the plan is lost"
-        }
+        "station: tries its key on the plan: {}",
+        verdict(done.tried)
     )?;
-    println!(rt, "station: seals the plan under the shared key")?;
-    print_bytes(rt, provider, done.sealed)?;
+    println!(rt, "station: seals the plan under the shared key")
+}
+
+fn print_opening(rt: &LibcRuntime, done: Rehearsal) -> io::Result<()> {
     println!(
         rt,
         "unit: opens it with the shared key: {}",
-        if done.arrived {
-            "it is the plan"
-        } else {
-            "it is not the plan"
-        }
+        verdict(done.arrived)
     )?;
     println!(
         rt,
         "unit with another key: opens it: {}",
-        if done.leaked {
-            "it is the plan"
-        } else {
-            "it is not the plan"
-        }
+        verdict(done.leaked)
     )
 }
 
-fn main(rt: LibcRuntime) -> io::Result<()> {
+fn print_refusal(rt: &LibcRuntime, error: ProviderError) -> io::Result<()> {
+    match error {
+        ProviderError::Wrong => println!(rt, "stopped: the provider calls a making wrong"),
+        ProviderError::Full => println!(rt, "stopped: the provider is full"),
+    }
+}
+
+fn rehearse_on_bytes(rt: &LibcRuntime) -> io::Result<()> {
+    println!(rt, "on the byte provider")?;
     let mut provider = ByteProvider::blank();
     match rehearse(&mut provider) {
-        Ok(done) => print_actions(&rt, &provider, done),
-        Err(ProviderError::Wrong) => println!(rt, "stopped: the provider calls a making wrong"),
-        Err(ProviderError::Full) => println!(rt, "stopped: the provider is full"),
+        Ok(done) => {
+            print_sealing(rt, done)?;
+            print_bytes(rt, &provider, done.sealed)?;
+            print_opening(rt, done)
+        }
+        Err(error) => print_refusal(rt, error),
     }
+}
+
+fn rehearse_on_terms(rt: &LibcRuntime) -> io::Result<()> {
+    println!(rt, "on the symbolic provider")?;
+    let mut provider = SymbolicProvider::blank();
+    match rehearse(&mut provider) {
+        Ok(done) => {
+            print_sealing(rt, done)?;
+            print_opening(rt, done)
+        }
+        Err(error) => print_refusal(rt, error),
+    }
+}
+
+fn main(rt: LibcRuntime) -> io::Result<()> {
+    rehearse_on_bytes(&rt)?;
+    rehearse_on_terms(&rt)
 }

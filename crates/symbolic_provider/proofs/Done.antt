@@ -30,7 +30,6 @@ wrong s s′ m none same = record {
 }
 
 module _ (s : SymbolicProvider) (m : Making) (t : Term) (makes : made-of s m ≡ Some t) where
-
   -- a new term where all places are taken
   pub full : (s′ : SymbolicProvider) → ((a : ℕ) → a < length (nodes-of s) → tree (nodes-of s) a ≡ t → ⊥) → length (nodes-of s) ≡ 1024 → s′ ≡ s → Done s m (Err Full) s′
   full s′ none size same =
@@ -63,15 +62,15 @@ module _ (s : SymbolicProvider) (m : Making) (t : Term) (makes : made-of s m ≡
 
   -- a new term, under the next handle
   pub new : (s′ : SymbolicProvider) → ((a : ℕ) → a < length (nodes-of s) → tree (nodes-of s) a ≡ t → ⊥) → length (nodes-of s) < 1024
-    → length (nodes-of s′) ≡ length (nodes-of s) + 1
-    → ((a : ℕ) → a < length (nodes-of s) → tree (nodes-of s′) a ≡ tree (nodes-of s) a)
-    → tree (nodes-of s′) (length (nodes-of s)) ≡ t
-    → Done s m (Ok (length (nodes-of s))) s′
+      → length (nodes-of s′) ≡ length (nodes-of s) + 1
+      → ((a : ℕ) → a < length (nodes-of s) → tree (nodes-of s′) a ≡ tree (nodes-of s) a)
+      → tree (nodes-of s′) (length (nodes-of s)) ≡ t
+      → Done s m (Ok (length (nodes-of s))) s′
   new s′ none l more same e =
       let ts = nodes-of s in
       let us = nodes-of s′ in
       let is : issued-of s′ ≡ (length ts, t) ∷ issued-of s =
-        ap (issued-below us) (more ∙ add-one (length ts)) ∙ ap (λ v. (length ts, v) ∷ issued-below us (length ts)) e ∙ ap (λ v. (length ts, t) ∷ v) (issued-same ts us (length ts) same) in
+      ap (issued-below us) (more ∙ add-one (length ts)) ∙ ap (λ v. (length ts, v) ∷ issued-below us (length ts)) e ∙ ap (λ v. (length ts, t) ∷ v) (issued-same ts us (length ts) same) in
       let hd = held-out ts (length ts) t none in
       let f : fits-of s m ≡ true = ap (room (issued-of s)) makes ∙ rw (hd, lt-ltb (length (issued-of s)) 1024 (omega (arith, length-issued ts (length ts), l))) refl in
       let st : stands (issued-of s′) (length ts) ≡ Some t = ap (λ v. stands v (length ts)) is ∙ rw (eq-eqb (length ts) (length ts) refl) refl in
@@ -80,9 +79,9 @@ module _ (s : SymbolicProvider) (m : Making) (t : Term) (makes : made-of s m ≡
           verdict = (ap isSome makes, f);
           answer = st ∙ sym makes;
           kept = λ a x q.
-            let lt = below ts (length ts) a x q .0 in
-            let ne : length ts ≡ a → ⊥ = λ z. omega (arith, lt, z) in
-            ap (λ v. stands v a) is ∙ rw (ne-eqb (length ts) a ne) q;
+              let lt = below ts (length ts) a x q .0 in
+              let ne : length ts ≡ a → ⊥ = λ z. omega (arith, lt, z) in
+              ap (λ v. stands v a) is ∙ rw (ne-eqb (length ts) a ne) q;
         };
         outcome = record {
           value = t;

@@ -24,9 +24,9 @@ module _ (ts : List TermNode) where
   stands-in zero a h = absurd (omega arith)
   stands-in (suc n) a h =
       ⊎-elim
-        (λ (e : n ≡ a). rw (eq-eqb n a e, e) refl)
-        (λ (ne : n ≡ a → ⊥). rw (ne-eqb n a ne) (stands-in n a (omega (arith, ne))))
-        (cases-eq n a)
+      (λ (e : n ≡ a). rw (eq-eqb n a e, e) refl)
+      (λ (ne : n ≡ a → ⊥). rw (ne-eqb n a ne) (stands-in n a (omega (arith, ne))))
+      (cases-eq n a)
 
   pub stands-out : (n a : ℕ) → n ≤ a → stands (issued-below ts n) a ≡ None
   stands-out zero a h = refl
@@ -36,9 +36,9 @@ module _ (ts : List TermNode) where
   pub below : (n a : ℕ) (t : Term) → stands (issued-below ts n) a ≡ Some t → (a < n) × (tree ts a ≡ t)
   below n a t h =
       ⊎-elim
-        (λ (l : a < n). let e : Some (tree ts a) ≡ Some t = sym (stands-in n a l) ∙ h in (l, cc))
-        (λ (g : n ≤ a). absurd (false≢true (ap isSome (sym (stands-out n a g) ∙ h))))
-        (cases-lt a n)
+      (λ (l : a < n). let e : Some (tree ts a) ≡ Some t = sym (stands-in n a l) ∙ h in (l, cc))
+      (λ (g : n ≤ a). absurd (false≢true (ap isSome (sym (stands-out n a g) ∙ h))))
+      (cases-lt a n)
 
   pub length-issued : (n : ℕ) → length (issued-below ts n) ≡ n
   length-issued zero = refl
@@ -49,9 +49,9 @@ module _ (ts : List TermNode) where
   held-in zero a t h e = absurd (omega arith)
   held-in (suc n) a t h e =
       ⊎-elim
-        (λ (q : n ≡ a). let s = same-decides (tree ts n) t .1 (ap (tree ts) q ∙ e) in rw s refl)
-        (λ (ne : n ≡ a → ⊥). rw (held-in n a t (omega (arith, ne)) e) (or-true (sameTerm (tree ts n) t)))
-        (cases-eq n a)
+      (λ (q : n ≡ a). let s = same-decides (tree ts n) t .1 (ap (tree ts) q ∙ e) in rw s refl)
+      (λ (ne : n ≡ a → ⊥). rw (held-in n a t (omega (arith, ne)) e) (or-true (sameTerm (tree ts n) t)))
+      (cases-eq n a)
     where
       or-true : (b : Bool) → (b || true) ≡ true
       or-true true = refl

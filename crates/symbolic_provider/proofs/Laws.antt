@@ -73,7 +73,7 @@ mates = record {
   never-wrong = λ k v. ap (λ b. isSome (when b (mateOf k))) (key-value k v .1);
   shared-same = λ i h. refl;
   back = λ k m f e.
-    let q = some-when (isKey k) (mateOf k) m e in
-    let t = key-mated k f (q .0) in
-    ap mateIf (q .1) ∙ ap (λ b. when b (mateOf (mateOf k))) (t .key) ∙ ap Some (t .back);
+      let q = some-when (isKey k) (mateOf k) m e in
+      let t = key-mated k f (q .0) in
+      ap mateIf (q .1) ∙ ap (λ b. when b (mateOf (mateOf k))) (t .key) ∙ ap Some (t .back);
 }

@@ -59,16 +59,16 @@ inserted s s′ m r (Ok n) k i =
     let f = i .outcome in
     let makes = k .some (f .0) (f .1) in
     ⊎-elim
-      (λ h. held s m (treeOf r (tree (nodes-of s))) makes s′ n (h .0 .0) (ap (λ ts. tree ts n) (sym (h .1)) ∙ i .stands .1) (h .1))
-      (λ h.
-        let e : n ≡ length (nodes-of s) = h .2 in
-        let d : Done s m (Ok (length (nodes-of s))) s′ =
-          new s m (treeOf r (tree (nodes-of s))) makes s′ (absent-tree (nodes-of s) r (orderly (s .terms)) (f .0) (h .0)) (h .1)
-            (ap length (h .3) ∙ length-append (nodes-of s) (r ∷ []))
-            (λ a l. i .keeps a l .1)
-            (ap (tree (nodes-of s′)) (sym e) ∙ i .stands .1) in
-        rw e d)
-      (f .2)
+    (λ h. held s m (treeOf r (tree (nodes-of s))) makes s′ n (h .0 .0) (ap (λ ts. tree ts n) (sym (h .1)) ∙ i .stands .1) (h .1))
+    (λ h.
+    let e : n ≡ length (nodes-of s) = h .2 in
+    let d : Done s m (Ok (length (nodes-of s))) s′ =
+    new s m (treeOf r (tree (nodes-of s))) makes s′ (absent-tree (nodes-of s) r (orderly (s .terms)) (f .0) (h .0)) (h .1)
+    (ap length (h .3) ∙ length-append (nodes-of s) (r ∷ []))
+    (λ a l. i .keeps a l .1)
+    (ap (tree (nodes-of s′)) (sym e) ∙ i .stands .1) in
+    rw e d)
+    (f .2)
 
 -- what a two-part form makes of two handles
 both : (s : SymbolicProvider) (g : Form) (a b : ℕ) → made-of s (form-making g a b) ≡ on (stands (issued-of s) a) (λ x. on (stands (issued-of s) b) (λ y. buildOf (formOf g) x y))
@@ -99,10 +99,10 @@ module _ (s : SymbolicProvider) (a b : ℕ) where
       let n = length (nodes-of s) in
       record {
         some = λ known proper.
-          both s g a b ∙ rw (stands-in ts n a (known .0), stands-in ts n b (known .1)) (ap (λ v. when v (built (formOf g) (tree ts a) (tree ts b))) (fit-decides (formOf g) (tree ts a) (tree ts b) .1 proper));
+            both s g a b ∙ rw (stands-in ts n a (known .0), stands-in ts n b (known .1)) (ap (λ v. when v (built (formOf g) (tree ts a) (tree ts b))) (fit-decides (formOf g) (tree ts a) (tree ts b) .1 proper));
         unknown = λ none. both s g a b ∙ none-made (buildOf (formOf g)) none (cases-lt a n) (cases-lt b n);
         unfit = λ known unfit.
-          both s g a b ∙ rw (stands-in ts n a (known .0), stands-in ts n b (known .1)) (ap (λ v. when v (built (formOf g) (tree ts a) (tree ts b))) (no-fit (partsFit (formOf g) (tree ts a) (tree ts b)) (fit-decides (formOf g) (tree ts a) (tree ts b)) unfit));
+            both s g a b ∙ rw (stands-in ts n a (known .0), stands-in ts n b (known .1)) (ap (λ v. when v (built (formOf g) (tree ts a) (tree ts b))) (no-fit (partsFit (formOf g) (tree ts a) (tree ts b)) (fit-decides (formOf g) (tree ts a) (tree ts b)) unfit));
       }
 
 -- an atom within the bounds

@@ -99,9 +99,9 @@ module _ (s : SymbolicProvider) where
   one : (a : ℕ) (g : Term → Option Term) → (a < length (nodes-of s) → g (tree (nodes-of s) a) ≡ None) → on (stands (issued-of s) a) g ≡ None
   one a g h =
       ⊎-elim
-        (λ (l : a < length (nodes-of s)). rw (stands-in (nodes-of s) (length (nodes-of s)) a l) (h l))
-        (λ (o : length (nodes-of s) ≤ a). rw (stands-out (nodes-of s) (length (nodes-of s)) a o) refl)
-        (cases-lt a (length (nodes-of s)))
+      (λ (l : a < length (nodes-of s)). rw (stands-in (nodes-of s) (length (nodes-of s)) a l) (h l))
+      (λ (o : length (nodes-of s) ≤ a). rw (stands-out (nodes-of s) (length (nodes-of s)) a o) refl)
+      (cases-lt a (length (nodes-of s)))
 
   lower : (h : ℕ) (f : Form) (a b : ℕ) → h < length (nodes-of s) → nodeAt (nodes-of s) h ≡ Built f a b → (a < length (nodes-of s)) × (b < length (nodes-of s))
   lower h f a b l e = let p = parts-lower (nodes-of s) (orderly (s .terms) .lower) h f a b l e in (omega (arith, p .0), omega (arith, p .1))
@@ -140,10 +140,10 @@ module _ (s : SymbolicProvider) where
   pub open-unsealed : (h o : ℕ) → PartsAt Sealed (nodes-of s) h None → Done s (Open h o) (Err Wrong) s
   open-unsealed h o at =
       wrong s s (Open h o)
-        (one h (λ x. on (stands (issued-of s) o) (openOf x)) (λ l.
-          ap (λ x. on (stands (issued-of s) o) (openOf x)) (tree-is (nodes-of s) (orderly (s .terms) .lower) h l)
-          ∙ one o (openOf (treeOf (nodeAt (nodes-of s) h) (tree (nodes-of s)))) (λ lo. no-content (nodeAt (nodes-of s) h) (tree (nodes-of s)) (tree (nodes-of s) o) (at l))))
-        refl
+      (one h (λ x. on (stands (issued-of s) o) (openOf x)) (λ l.
+      ap (λ x. on (stands (issued-of s) o) (openOf x)) (tree-is (nodes-of s) (orderly (s .terms) .lower) h l)
+      ∙ one o (openOf (treeOf (nodeAt (nodes-of s) h) (tree (nodes-of s)))) (λ lo. no-content (nodeAt (nodes-of s) h) (tree (nodes-of s)) (tree (nodes-of s) o) (at l))))
+      refl
 
   module _ (h : ℕ) (p : ℕ × ℕ) (at : PartsAt Sealed (nodes-of s) h (Some p)) (o : ℕ) where
     sealed-node : nodeAt (nodes-of s) h ≡ Built Sealed (p .0) (p .1)
@@ -161,16 +161,16 @@ module _ (s : SymbolicProvider) where
     pub open-done : Opens (nodes-of s) (p .1) (Some o) → Done s (Open h o) (Ok (p .0)) s
     open-done op =
         let e : made-of s (Open h o) ≡ Some (tree (nodes-of s) (p .0)) =
-          opens-by ∙ rw (stands-in (nodes-of s) (length (nodes-of s)) o (op .2)) (ap (λ b. when b (tree (nodes-of s) (p .0))) (same-decides (tree (nodes-of s) o) (opener (tree (nodes-of s) (p .1))) .1 (op .3))) in
+        opens-by ∙ rw (stands-in (nodes-of s) (length (nodes-of s)) o (op .2)) (ap (λ b. when b (tree (nodes-of s) (p .0))) (same-decides (tree (nodes-of s) o) (opener (tree (nodes-of s) (p .1))) .1 (op .3))) in
         held s (Open h o) (tree (nodes-of s) (p .0)) e s (p .0) (lower h Sealed (p .0) (p .1) (at .0) sealed-node .0) refl refl
 
     -- no other term opens it
     not-opener : (o < length (nodes-of s) → tree (nodes-of s) o ≡ opener (tree (nodes-of s) (p .1)) → ⊥) → Done s (Open h o) (Err Wrong) s
     not-opener ne =
         wrong s s (Open h o)
-          (opens-by ∙ one o (λ x. when (sameTerm x (opener (tree (nodes-of s) (p .1)))) (tree (nodes-of s) (p .0))) (λ l.
-            ap (λ b. when b (tree (nodes-of s) (p .0))) (no-fit (sameTerm (tree (nodes-of s) o) (opener (tree (nodes-of s) (p .1)))) (same-decides (tree (nodes-of s) o) (opener (tree (nodes-of s) (p .1)))) (ne l))))
-          refl
+        (opens-by ∙ one o (λ x. when (sameTerm x (opener (tree (nodes-of s) (p .1)))) (tree (nodes-of s) (p .0))) (λ l.
+        ap (λ b. when b (tree (nodes-of s) (p .0))) (no-fit (sameTerm (tree (nodes-of s) o) (opener (tree (nodes-of s) (p .1)))) (same-decides (tree (nodes-of s) o) (opener (tree (nodes-of s) (p .1)))) (ne l))))
+        refl
 
     pub open-other : (q : ℕ) → Opens (nodes-of s) (p .1) (Some q) → (q ≡ o → ⊥) → Done s (Open h o) (Err Wrong) s
     open-other q op ne = not-opener (λ l e. ne (numbers-apart (nodes-of s) (orderly (s .terms)) q o (op .2) l (op .3 ∙ sym e)))
@@ -268,6 +268,6 @@ module _ (s s′ : SymbolicProvider) (key : ℕ) (o : Result ℕ TermError) (d :
   pub mate-done : Done s (MATE key) (answer-of o) s′
   mate-done =
       ⊎-elim
-        (λ (l : key < length (nodes-of s)). by-case l (mateCase (nodeAt (nodes-of s) key)) refl (d .known l))
-        (λ (g : length (nodes-of s) ≤ key). mate-unknown g)
-        (cases-lt key (length (nodes-of s)))
+      (λ (l : key < length (nodes-of s)). by-case l (mateCase (nodeAt (nodes-of s) key)) refl (d .known l))
+      (λ (g : length (nodes-of s) ≤ key). mate-unknown g)
+      (cases-lt key (length (nodes-of s)))

@@ -19,7 +19,9 @@ impl SymbolicProvider {
     pub fn blank() -> Self
         ensures { λ r. ⌜ issued-of r ≡ [] ⌝ }
     {
-        SymbolicProvider { terms: Terms::blank() }
+        SymbolicProvider {
+            terms: Terms::blank(),
+        }
     }
 
     // Whether two handles stand for one term: they are one number then.

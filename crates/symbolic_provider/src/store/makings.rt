@@ -46,7 +46,9 @@ fn halves(node: TermNode) -> Option<(Handle, Handle)>
 {
     match node {
         TermNode::Built(Form::Pair, left, right) => Some((left, right)),
-        TermNode::Built(Form::Sealed | Form::Digest | Form::Entry, _, _) | TermNode::Name(_, _) | TermNode::Mate(_) => None,
+        TermNode::Built(Form::Sealed | Form::Digest | Form::Entry, _, _)
+        | TermNode::Name(_, _)
+        | TermNode::Mate(_) => None,
     }
 }
 
@@ -56,7 +58,9 @@ fn contents(node: TermNode) -> Option<(Handle, Handle)>
 {
     match node {
         TermNode::Built(Form::Sealed, content, key) => Some((content, key)),
-        TermNode::Built(Form::Pair | Form::Digest | Form::Entry, _, _) | TermNode::Name(_, _) | TermNode::Mate(_) => None,
+        TermNode::Built(Form::Pair | Form::Digest | Form::Entry, _, _)
+        | TermNode::Name(_, _)
+        | TermNode::Mate(_) => None,
     }
 }
 
