@@ -3,7 +3,7 @@ use mathlib.Core.Bool.{Bool, true, false, cond}
 use mathlib.Core.List.{List, _∷_}
 use mathlib.Core.Logic.{_⊎_, inl, inr, _↔_}
 use mathlib.Core.Path.{_≡_, refl, sym, _∙_, ap, subst}
-use Prim.Native.Nat.{ℕ, zero, suc, _<_, _≤_}
+use Prim.Native.Nat.{ℕ, zero, suc, _<_}
 use native.Mathlib.Omega.{arith}
 use native.Mathlib.Nat.{not-suc-le-zero}
 use lib.ListN.{length, getD, replicate}
@@ -16,7 +16,7 @@ use Rattle.terms.specs.declared.node.Form.{Form}
 use Rattle.terms.specs.declared.node.TermNode.{TermNode}
 use Rattle.terms.specs.declared.node.TermNode.the-variants.{Name, Built, Mate}
 use Rattle.terms.specs.Node.{nodeAt}
-use Rattle.terms.specs.Tree.{tree, treeOf, formOf, Orderly}
+use Rattle.terms.specs.Tree.{tree, kindOf, formOf, Orderly}
 use Rattle.terms.specs.Held.{heldBelow, heldTerms, ComposableId}
 use Rattle.terms.proofs.Trees.{tree-at, numbers-apart}
 
@@ -72,22 +72,20 @@ module _ (ts : List TermNode) (held : List Bool) where
           subst (λ n. getD held n false ≡ true) (numbers-apart ts ok (w .0) i (w .1) l (w .3)) (w .2),
     )
 
-    -- on numbers: a name or a mate is composable exactly if held, a two-part term exactly if held or if both parts are
-    pub composable-name : (i : ℕ) (k : Kind) (n : ℕ) → i < length ts → nodeAt ts i ≡ Name k n → ComposableId ts held i ↔ (getD held i false ≡ true)
-    composable-name i k n l e =
-        let is = tree-at ts (ok .lower) i (Name k n) l e in
+    composable-leaf : (i : ℕ) (t : Term) → i < length ts → tree ts i ≡ t → (Composable (heldTerms ts held) t → In t (heldTerms ts held))
+        → ComposableId ts held i ↔ (getD held i false ≡ true)
+    composable-leaf i t l is only =
         let d = held-decides i l in (
-          λ h. d .1 (subst (λ t. In t (heldTerms ts held)) (sym is) (subst (Composable (heldTerms ts held)) is h)),
+          λ h. d .1 (subst (λ s. In s (heldTerms ts held)) (sym is) (only (subst (Composable (heldTerms ts held)) is h))),
           λ h. held-composable (heldTerms ts held) (tree ts i) (d .0 h),
         )
 
+    -- on numbers: a name or a mate is composable exactly if held, a two-part term exactly if held or if both parts are
+    pub composable-name : (i : ℕ) (k : Kind) (n : ℕ) → i < length ts → nodeAt ts i ≡ Name k n → ComposableId ts held i ↔ (getD held i false ≡ true)
+    composable-name i k n l e = composable-leaf i (name (kindOf k) n) l (tree-at ts (ok .lower) i (Name k n) l e) (λ h. h)
+
     pub composable-mate : (i a : ℕ) → i < length ts → nodeAt ts i ≡ Mate a → ComposableId ts held i ↔ (getD held i false ≡ true)
-    composable-mate i a l e =
-        let is = tree-at ts (ok .lower) i (Mate a) l e in
-        let d = held-decides i l in (
-          λ h. d .1 (subst (λ t. In t (heldTerms ts held)) (sym is) (subst (Composable (heldTerms ts held)) is h)),
-          λ h. held-composable (heldTerms ts held) (tree ts i) (d .0 h),
-        )
+    composable-mate i a l e = composable-leaf i (mate (tree ts a)) l (tree-at ts (ok .lower) i (Mate a) l e) (λ h. h)
 
     pub composable-built : (i : ℕ) (f : Form) (a b : ℕ) → i < length ts → nodeAt ts i ≡ Built f a b
         → ComposableId ts held i ↔ ((getD held i false ≡ true) ⊎ (ComposableId ts held a × ComposableId ts held b))

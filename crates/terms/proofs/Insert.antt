@@ -2,7 +2,7 @@
 use mathlib.Core.Bool.{true}
 use mathlib.Core.List.{List, [], _∷_, _++_}
 use mathlib.Core.Path.{_≡_, refl, sym, _∙_}
-use Prim.Native.Nat.{ℕ, _+_, _<_, _≤_}
+use Prim.Native.Nat.{ℕ}
 use native.Mathlib.Omega.{arith}
 use lib.ListN.{length}
 use Rattle.std.proofs.shelf.Lists.{length-push}
@@ -11,7 +11,7 @@ use Rattle.std.specs.declared.option.Option.the-variants.{Some, None}
 use Rattle.terms.specs.declared.node.TermNode.{TermNode}
 use Rattle.terms.specs.declared.node.TermNode.the-variants.{Name, Built, Mate}
 use Rattle.terms.specs.Node.{PartsBelow, fits}
-use Rattle.terms.specs.Tree.{tree, Orderly}
+use Rattle.terms.specs.Tree.{Orderly}
 use Rattle.terms.specs.Outcome.{Known, Proper, Keeps, Found, FoundTree}
 use Rattle.terms.proofs.Trees.{tree-at, numbers-apart, record-of}
 use Rattle.terms.proofs.Formed.{fit-at, asymmetric-at}

@@ -1,8 +1,8 @@
 -- A table and the list of its records.
-use mathlib.Core.Path.{_≡_, sym, subst}
+use mathlib.Core.Path.{_≡_, subst}
 use Prim.Native.Nat.{ℕ, _<_, _≤_}
 use native.Mathlib.Omega.{arith}
-use lib.ListN.{length, take}
+use lib.ListN.{length}
 use lib.Seq.{getD-take, length-take-le}
 use Rattle.terms.specs.declared.table.Terms.{Terms}
 use Rattle.terms.specs.Node.{nodeAt}

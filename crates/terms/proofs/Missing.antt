@@ -11,7 +11,7 @@ use Rattle.terms.specs.declared.node.Form.{Form}
 use Rattle.terms.specs.declared.node.TermNode.{TermNode}
 use Rattle.terms.specs.declared.node.TermNode.the-variants.{Name, Built, Mate}
 use Rattle.terms.specs.Node.{nodeAt}
-use Rattle.terms.specs.Tree.{tree, Orderly}
+use Rattle.terms.specs.Tree.{tree, kindOf, Orderly}
 use Rattle.terms.specs.Held.{heldTerms, ComposableId, FirstMissing, Undivided, Within}
 use Rattle.terms.proofs.Trees.{tree-at}
 
@@ -40,13 +40,15 @@ missing-lacking held (built f a b) m (out, inl w) = let q = missing-lacking held
 missing-lacking held (built f a b) m (out, inr w) = let q = missing-lacking held b m (w .1) in (q .0, inr (inr (q .1)), q .2)
 missing-lacking held (mate k) m (out, e) = subst (λ n. Undivided n × ((n ≡ mate k) ⊎ Within n k) × (In n held → ⊥)) (sym e) (tt, inl refl, out)
 
--- of a name or a mate that is not composable, it is itself that is missing
-pub missing-itself : (ts : List TermNode) (held : List Bool) → Orderly ts → (i : ℕ) (r : TermNode) → i < length ts → nodeAt ts i ≡ r
-    → ((f : Form) (a b : ℕ) → r ≡ Built f a b → ⊥) → (ComposableId ts held i → ⊥) → FirstMissing (heldTerms ts held) (tree ts i) (tree ts i)
-missing-itself ts held ok i (Name k n) l e leaf out =
-    let is = tree-at ts (ok .lower) i (Name k n) l e in
-    subst (λ t. FirstMissing (heldTerms ts held) t t) (sym is) (λ h. out (subst (Composable (heldTerms ts held)) (sym is) h), refl)
-missing-itself ts held ok i (Built f a b) l e leaf out = absurd (leaf f a b refl)
-missing-itself ts held ok i (Mate a) l e leaf out =
-    let is = tree-at ts (ok .lower) i (Mate a) l e in
-    subst (λ t. FirstMissing (heldTerms ts held) t t) (sym is) (λ h. out (subst (Composable (heldTerms ts held)) (sym is) h), refl)
+module _ (ts : List TermNode) (held : List Bool) (ok : Orderly ts) (i : ℕ) (l : i < length ts) (out : ComposableId ts held i → ⊥) where
+  itself : (t : Term) → tree ts i ≡ t → ((Composable (heldTerms ts held) t → ⊥) → FirstMissing (heldTerms ts held) t t)
+      → FirstMissing (heldTerms ts held) (tree ts i) (tree ts i)
+  itself t is here =
+      subst (λ s. FirstMissing (heldTerms ts held) s s) (sym is) (here (λ h. out (subst (Composable (heldTerms ts held)) (sym is) h)))
+
+  -- of a name or a mate that is not composable, it is itself that is missing
+  pub missing-itself : (r : TermNode) → nodeAt ts i ≡ r → ((f : Form) (a b : ℕ) → r ≡ Built f a b → ⊥)
+      → FirstMissing (heldTerms ts held) (tree ts i) (tree ts i)
+  missing-itself (Name k n) e leaf = itself (name (kindOf k) n) (tree-at ts (ok .lower) i (Name k n) l e) (λ none. (none, refl))
+  missing-itself (Built f a b) e leaf = absurd (leaf f a b refl)
+  missing-itself (Mate a) e leaf = itself (mate (tree ts a)) (tree-at ts (ok .lower) i (Mate a) l e) (λ none. (none, refl))

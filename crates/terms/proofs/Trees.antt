@@ -8,7 +8,7 @@ use native.Mathlib.Nat.{not-suc-le-zero}
 use lib.ListN.{length}
 use Rattle.std.proofs.shelf.Tests.{cases-order}
 use Rattle.deduction.specs.Term.{Kind as TreeKind, party, number, shared, public, table, function}
-use Rattle.deduction.specs.Term.{Form as TreeForm, pair, sealed, digest, entry, Term, name, built, mate}
+use Rattle.deduction.specs.Term.{Form as TreeForm, pair, sealed, digest, entry, Term, built, mate}
 use Rattle.terms.specs.declared.node.Kind.{Kind}
 use Rattle.terms.specs.declared.node.Kind.the-variants.{Party, Number, Shared, Public, Table, Function}
 use Rattle.terms.specs.declared.node.Form.{Form}

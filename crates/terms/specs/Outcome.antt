@@ -82,7 +82,7 @@ Stands us (Err e) t = Unit {0}
 abbrev pub Keeps : List TermNode → List TermNode → Type 0
 Keeps ts us = (i : ℕ) → i < length ts → (i < length us) × (tree us i ≡ tree ts i)
 
--- the mate of a term: no key has none, a shared key's own number, the number inside a mate, else the number of a record that is inserted
+-- the mate of a term: what is no key is refused, a shared key has its own number, a mate the number inside, else the mate is inserted
 abbrev pub MatesBy : ℕ → List TermNode → ℕ → MateCase → Result ℕ TermError → List TermNode → Type 0
 MatesBy N ts key NoKey o us = (Key (tree ts key) → ⊥) × (o ≡ Err WrongKind) × (us ≡ ts)
 MatesBy N ts key Itself o us = (o ≡ Ok key) × (us ≡ ts)

@@ -1,7 +1,6 @@
 -- The trees that numbers stand for.
 use mathlib.Core.List.{List}
-use Prim.Native.Nat.{ℕ, zero, suc, _<_}
-use lib.ListN.{length}
+use Prim.Native.Nat.{ℕ, zero, suc}
 use Rattle.deduction.specs.Term.{Kind as TreeKind, party, number, shared, public, table, function}
 use Rattle.deduction.specs.Term.{Form as TreeForm, pair, sealed, digest, entry, Term, name, built, mate}
 use Rattle.terms.specs.declared.node.Kind.{Kind}

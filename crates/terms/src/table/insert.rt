@@ -87,7 +87,7 @@ impl<const N: usize> Terms<N> {
     }
 
     // The number of a record, which is added if it is new.
-    pub(crate) fn insert(&mut self, node: TermNode) -> Result<TermId, TermError>
+    pub(super) fn insert(&mut self, node: TermNode) -> Result<TermId, TermError>
         ensures { λ r. ⌜ Inserted (now (self .entry)) node r (now (self .exit)) ⌝ }
     {
         self.check(node)?;

@@ -1,5 +1,5 @@
 use native.Mathlib.Omega.{arith}
-use mathlib.Core.Path.{_≡_, sym}
+use mathlib.Core.Path.{sym}
 use Rattle.terms.specs.Held.{heldTerms, FirstMissing}
 use Rattle.terms.specs.Node.{nodeAt}
 use Rattle.terms.specs.Tree.{tree}
@@ -14,7 +14,7 @@ returns g c =
     let held = c .args .held .now in
     let m = c .loop-a .lacking in
     let inv = c .loop-a .inv in
-    let here = missing-itself (listed t) held (orderly t) m (c .node .result) (inv .0) (sym {b = nodeAt (listed t) m} (c .node .ensures .is)) (c .in-rest .not-Built) (inv .1) in
+    let here = missing-itself (listed t) held (orderly t) m (inv .0) (inv .1) (c .node .result) (sym {b = nodeAt (listed t) m} (c .node .ensures .is)) (c .in-rest .not-Built) in
     let whole : FirstMissing (heldTerms (listed t) held) (tree (listed t) (c .args .id)) (tree (listed t) m) = inv .2 (tree (listed t) m) here in
     record {
       first = (omega arith, inv .0, whole);

@@ -1,4 +1,4 @@
-use Prim.Native.Nat.{ℕ, _<_}
+use Prim.Native.Nat.{_<_}
 use lib.ListN.{length}
 use Rattle.deduction.specs.Term.{Term}
 use Rattle.terms.specs.Held.{heldTerms, ComposableId, FirstMissing}

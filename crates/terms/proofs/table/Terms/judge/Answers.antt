@@ -1,5 +1,5 @@
-use mathlib.Core.Logic.{inl, inr, ⊎-elim}
-use mathlib.Core.Path.{_≡_, refl, sym, _∙_}
+use mathlib.Core.Logic.{⊎-elim}
+use mathlib.Core.Path.{refl, sym, _∙_}
 use Rattle.terms.specs.Node.{nodeAt}
 use Rattle.terms.specs.Listed.{listed}
 use Rattle.terms.proofs.Listed.{orderly}

@@ -1,4 +1,4 @@
-// Reading and adding terms.
+// The blank table, and what reading one answers.
 ghost use mathlib.Core.Path.{_≡_};
 ghost use mathlib.Core.List.{[]};
 ghost use Prim.Native.Nat.{_<_, _≤_};
@@ -14,7 +14,7 @@ use crate::node::TermNode;
 use crate::node::TermNodePartialEq;
 use crate::table::Terms;
 
-// Unused places.
+// Places that hold no term yet.
 fn unused<const N: usize>() -> [TermNode; N]
     ensures { λ r. ⌜ length r ≡ N ⌝ }
 {
@@ -41,7 +41,7 @@ impl<const N: usize> Terms<N> {
     }
 
     // The record of a number, and the tree that it makes of the trees of its parts.
-    pub(crate) fn node(&self, id: TermId) -> TermNode
+    pub(super) fn node(&self, id: TermId) -> TermNode
         requires { ⌜ id < length (listed (now self)) ⌝ }
         ensures is { λ r. ⌜ r ≡ nodeAt (listed (now (self .entry))) id ⌝ }
         ensures stands { λ r. ⌜ tree (listed (now (self .entry))) id ≡ treeOf r (tree (listed (now (self .entry)))) ⌝ }
