@@ -1,0 +1,10 @@
+pub mod Script
+pub mod Compose
+pub mod Saturate
+pub mod Walk
+pub mod Effects
+pub mod State
+pub mod History
+pub mod Grows
+pub mod Invariant
+pub mod Theorems

@@ -1,0 +1,4 @@
+pub mod Slots
+pub mod View
+pub mod Composing
+pub mod Lacking

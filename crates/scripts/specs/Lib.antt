@@ -1,0 +1,4 @@
+pub mod Lines
+pub mod View
+pub mod Holding
+pub mod Composing
