@@ -1,16 +1,15 @@
 """A plain implementation of the byte provider, to compare the proved one with.
 
-A value is a string of bytes. The provider keeps values under handles, issued
-from 0 upward. It has room for 4,096 handles and 32,768 bytes. A making is
-refused as `wrong` if its operands are wrong for it, else as `full` if there is
-no room for what it makes; a refusal alters nothing.
+A value is a string of bytes. There is room for 4,096 handles and 32,768 bytes.
 """
+
+from provider_reference import FULL, WRONG, Provider
 
 HANDLES = 4096
 BYTES = 32768
 
-WRONG = "wrong"
-FULL = "full"
+# How a byte is written, so that long values are shown fast.
+DECIMAL = [str(n) for n in range(256)]
 
 SHARED, PUBLIC, PRIVATE = 2, 3, 6
 
@@ -22,8 +21,6 @@ OPENING = {SHARED: -1, PUBLIC: 1, PRIVATE: -1}
 
 
 def atom(kind, number):
-    if kind > 5 or number > 65535:
-        return None
     return bytes([kind]) + number.to_bytes(2, "big")
 
 
@@ -102,21 +99,15 @@ MAKERS = {
 PARTS = ("left", "right")
 
 
-class ByteProvider:
+class ByteProvider(Provider):
+    makers = MAKERS
+
     def __init__(self):
-        self.values = []
+        super().__init__()
         self.used = 0
 
-    def issued(self, handle):
-        return handle < len(self.values)
-
-    def made(self, word, operands):
-        """The value that a making makes, or None where it is wrong."""
-        if word == "atom":
-            return atom(*operands)
-        if not all(self.issued(handle) for handle in operands):
-            return None
-        return MAKERS[word](*(self.values[handle] for handle in operands))
+    def atom(self, kind, number):
+        return atom(kind, number)
 
     def size(self, word, value):
         return 0 if word in PARTS else len(value)
@@ -139,8 +130,7 @@ class ByteProvider:
         value = self.made(word, operands)
         return value is not None and self.has_room(word, value)
 
-    def same(self, a, b):
-        return self.issued(a) and self.issued(b) and self.values[a] == self.values[b]
-
     def show(self, handle):
-        return self.values[handle] if self.issued(handle) else WRONG
+        if not self.issued(handle):
+            return WRONG
+        return " ".join(["bytes", *(DECIMAL[b] for b in self.values[handle])])

@@ -15,107 +15,14 @@ first answer that differs, and both answers are printed, and the exit status is
 1; it is 0 only if every list was run and every answer is the same.
 """
 
-import random
-import subprocess
 import sys
 
 from byte_reference import BYTES, HANDLES
-from console_reference import ONE_OPERAND, TWO_OPERANDS, UNREAD, Console
+from call_lists import MAKINGS, CallList, asked, batches, compare_all, shape_of, start_with_names
+from console_reference import PROVIDERS, UNREAD
 
 LISTS = 3200
-LISTS_IN_A_RUN = 100
 UNREAD_LISTS = 40
-LEAST_LISTS = 100
-MAKINGS = ONE_OPERAND + TWO_OPERANDS
-
-
-class CallList:
-    """Lines, with the reference's answer to each."""
-
-    def __init__(self, shape, seed):
-        self.name = f"{shape} of seed {seed}"
-        self.random = random.Random(seed)
-        self.console = Console()
-        self.lines = []
-        # each with the number of lines up to the one that it answers
-        self.answers = []
-
-    @property
-    def provider(self):
-        return self.console.provider
-
-    @property
-    def issued(self):
-        return len(self.provider.values)
-
-    @property
-    def free(self):
-        return BYTES - self.provider.used
-
-    def say(self, line):
-        line = line if isinstance(line, bytes) else line.encode()
-        answer = self.console.answer(line)
-        self.lines.append(line)
-        if answer is not None:
-            self.answers.append((len(self.lines), answer))
-        return answer
-
-    # A handle: mostly an issued one, among these mostly a late one.
-    def handle(self):
-        roll = self.random.random()
-        if self.issued == 0 or roll < 0.04:
-            return self.random.choice([self.issued, self.issued + 1, 4095, 4096, 65535])
-        if roll < 0.5:
-            return self.random.randrange(max(0, self.issued - 6), self.issued)
-        return self.random.randrange(self.issued)
-
-    def atom(self):
-        kind = self.random.choice([0, 1, 2, 2, 3, 3, 4, 5, 5, 6, 7, 65535])
-        number = self.random.choice([0, 1, 2, 255, 256, 257, 65535, self.random.randrange(65536)])
-        return f"atom {kind} {number}"
-
-    def making(self, word=None):
-        word = word or self.random.choice(MAKINGS)
-        if word == "atom":
-            return self.atom()
-        if word in ONE_OPERAND:
-            return f"{word} {self.handle()}"
-        return f"{word} {self.handle()} {self.handle()}"
-
-    def ask_fits(self, count):
-        for _ in range(count):
-            self.say("fits " + self.making())
-
-    def make(self, making):
-        """A making between two questions whether it fits; what it made is shown."""
-        self.say("fits " + making)
-        answer = self.say(making)
-        self.say("fits " + making)
-        if answer.isdigit():
-            self.say(f"show {answer}")
-            self.say(f"same {answer} {self.handle()}")
-        return answer
-
-    def show_all(self, most=64):
-        """The values at the end, with what was never issued."""
-        handles = range(self.issued)
-        if self.issued > most:
-            handles = sorted(self.random.sample(handles, most))
-        for handle in handles:
-            self.say(f"show {handle}")
-        self.say(f"show {self.issued}")
-        for a in (0, self.issued, 65535):
-            for b in (0, self.issued, 65535):
-                self.say(f"same {a} {b}")
-
-
-def start_with_names(calls):
-    """An atom of each kind, a pair, a sealed value and a mate."""
-    for kind in range(6):
-        calls.make(f"atom {kind} {calls.random.randrange(65536)}")
-    calls.make("join 2 3")
-    calls.make("seal 6 2")
-    calls.make("mate 3")
 
 
 def blank_list(calls):
@@ -165,13 +72,17 @@ def tiny_list(calls):
     calls.show_all()
 
 
+def free_bytes(calls):
+    return BYTES - calls.provider.used
+
+
 def fill_bytes(calls, left_over):
     """Doubles values until they are too long, then adds copies of these and atoms until few bytes are free."""
     calls.make("atom 2 1")
     for _ in range(12):
         calls.make(f"join {calls.issued - 1} {calls.issued - 1}")
     for handle in reversed(range(calls.issued)):
-        for _ in range((calls.free - left_over) // len(calls.provider.values[handle])):
+        for _ in range((free_bytes(calls) - left_over) // len(calls.provider.values[handle])):
             calls.say(f"seal {handle} 0")
 
 
@@ -190,7 +101,7 @@ def full_bytes_list(calls):
 def last_bytes_list(calls):
     """Fills the table to its last byte, one byte at a time, and goes on."""
     fill_bytes(calls, 3)
-    for _ in range(calls.free):
+    for _ in range(free_bytes(calls)):
         calls.make("digest 0 0")
     for word in MAKINGS * 2:
         calls.make(calls.making(word))
@@ -226,17 +137,8 @@ SHAPES = [
 ]
 
 
-def shape_of(seed):
-    place = seed % sum(count for count, _ in SHAPES)
-    for count, shape in SHAPES:
-        if place < count:
-            return shape
-        place -= count
-    raise AssertionError("a place beyond the shapes")
-
-
 def call_list(seed):
-    shape = shape_of(seed)
+    shape = shape_of(SHAPES, seed)
     calls = CallList(shape.__name__, seed)
     calls.say("provider bytes")
     shape(calls)
@@ -271,7 +173,8 @@ def damaged(rng, line):
 
 NO_CALLS = [
     b" ", b"  ", b"\r", b"\0", b"\xff\xfe", b"hello world",
-    b"bytes", b"provider", b"provider symbolic", b"provider bytes ", b"provider  bytes",
+    b"bytes", b"provider", b"provider terms", b"provider symbol", b"provider symbolic ", b"provider bytes ",
+    b"provider  bytes", b"symbolic", b"provider bytes symbolic", b"provider Symbolic",
     b"Provider bytes", b"provider bytes bytes",
     b"atom", b"atom 1", b"atom 1 2 3", b"atom 1 2 3 4 5", b"left", b"left 0 0", b"mate 0 0",
     b"join 0 x", b"join x 0", b"mates 0", b"mat 0", b"lef 0", b"leftt 0",
@@ -291,7 +194,7 @@ def unread_list(seed):
     for line in NO_CALLS:
         calls.say(line)
     calls.say(b"")
-    calls.say("provider bytes")
+    calls.say(calls.random.choice(list(PROVIDERS)))
     for line in NO_CALLS:
         calls.say(line)
     unread = [answer for _, answer in calls.answers if answer != UNREAD]
@@ -306,74 +209,10 @@ def unread_list(seed):
     return calls
 
 
-def run(program, lists):
-    """The program's answer lines to some lists of calls."""
-    text = b"".join(line + b"\n" for calls in lists for line in calls.lines)
-    done = subprocess.run([program], input=text, stdout=subprocess.PIPE, timeout=300)
-    if done.returncode != 0:
-        raise SystemExit(f"compare: {program} ended with status {done.returncode}")
-    return done.stdout.decode("latin-1").split("\n")[:-1]
-
-
-def first_difference(calls, got):
-    """The index of the first answer that differs, or None."""
-    for index, (_, expected) in enumerate(calls.answers):
-        if index >= len(got) or got[index] != expected:
-            return index
-    return None
-
-
-def shown(text):
-    return text if len(text) <= 400 else f"{text[:200]} .. {text[-180:]} ({len(text)} characters)"
-
-
-def report(program, calls, index, got):
-    """Prints a difference, with the lines up to it."""
-    line, expected = calls.answers[index]
-    alone = run(program, [calls])
-    print(f"{calls.name}: answer {index + 1} differs" + ("" if first_difference(calls, alone) is not None else ", though not in a run of its own"))
-    for text in calls.lines[:line]:
-        print("  " + shown(text.decode("latin-1")))
-    print(f"expected: {shown(expected)}")
-    print("got:      " + (shown(got[index]) if index < len(got) else "nothing"))
-
-
-def compare(program, lists):
-    """Runs some lists; True if every answer is the reference's."""
-    got = run(program, lists)
-    for calls in lists:
-        index = first_difference(calls, got)
-        if index is not None:
-            report(program, calls, index, got)
-            return False
-        got = got[len(calls.answers):]
-    if got:
-        print(f"{lists[0].name} and after it: {len(got)} answers more than calls, the first {shown(got[0])}")
-    return not got
-
-
-def batches(count):
-    """The lists, as many at a time as go into one run."""
-    for seed in range(UNREAD_LISTS):
-        yield [unread_list(seed)]
-    for start in range(0, count, LISTS_IN_A_RUN):
-        yield [call_list(seed) for seed in range(start, min(count, start + LISTS_IN_A_RUN))]
-
-
 def main(arguments):
-    if len(arguments) not in (1, 2):
-        raise SystemExit(__doc__)
-    count = int(arguments[1]) if len(arguments) == 2 else LISTS
-    if count < LEAST_LISTS:
-        raise SystemExit(f"compare: at least {LEAST_LISTS} lists, so that each shape is tried")
-    lists_run, answers_run = 0, 0
-    for lists in batches(count):
-        if not compare(arguments[0], lists):
-            return 1
-        lists_run += len(lists)
-        answers_run += sum(len(calls.answers) for calls in lists)
-    print(f"compare: {lists_run} lists with {answers_run} answers, all the same")
-    return 0
+    program, count = asked(arguments, __doc__, LISTS)
+    status = compare_all("unread lines", program, ([unread_list(seed)] for seed in range(UNREAD_LISTS)))
+    return status or compare_all("bytes", program, batches(call_list, count))
 
 
 if __name__ == "__main__":

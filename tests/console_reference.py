@@ -3,6 +3,9 @@
 import re
 
 from byte_reference import ByteProvider
+from symbolic_reference import SymbolicProvider
+
+PROVIDERS = {"provider bytes": ByteProvider, "provider symbolic": SymbolicProvider}
 
 ONE_OPERAND = ("left", "right", "mate")
 TWO_OPERANDS = ("atom", "join", "seal", "open", "digest", "entry")
@@ -11,8 +14,6 @@ NUMBER = r"([0-9]{1,5})"
 MAKING = rf"(?:({'|'.join(ONE_OPERAND)}) {NUMBER}|({'|'.join(TWO_OPERANDS)}) {NUMBER} {NUMBER})"
 
 UNREAD = "unread"
-# How a number is written, so that long values are shown fast.
-DECIMAL = [str(n) for n in range(256)]
 
 
 def numbers(match):
@@ -45,8 +46,8 @@ class Console:
         if line == b"":
             return None
         text = line.decode("latin-1")
-        if text == "provider bytes":
-            self.provider = ByteProvider()
+        if text in PROVIDERS:
+            self.provider = PROVIDERS[text]()
             return "ok"
         for form, call in self.calls:
             match = form.fullmatch(text)
@@ -58,10 +59,7 @@ class Console:
         return yes_no(self.provider.same(*numbers(match)))
 
     def show(self, match):
-        value = self.provider.show(*numbers(match))
-        if isinstance(value, str):
-            return value
-        return " ".join(["bytes", *(DECIMAL[b] for b in value)])
+        return self.provider.show(*numbers(match))
 
     def fits(self, match):
         return yes_no(self.provider.fits(*operands(match)))

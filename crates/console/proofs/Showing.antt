@@ -1,5 +1,5 @@
 -- What the provider read is what is shown.
-use mathlib.Core.Path.{_≡_, refl, sym, ap, subst, _∙_}
+use mathlib.Core.Path.{_≡_, refl, ap, _∙_}
 use mathlib.Core.List.{List}
 use native.Mathlib.Omega.{arith}
 use Prim.Native.Nat.{ℕ, _≤_}
@@ -16,10 +16,7 @@ use Rattle.byte_provider.proofs.Laws.{holds}
 use Rattle.std.specs.declared.result.Result.the-variants.{Ok, Err}
 use Rattle.std.proofs.shelf.Lists.{take-at}
 use Rattle.console.specs.declared.answer.Answer.the-variants.{Wrong, Bytes as ShownBytes}
-use Rattle.console.specs.declared.answer.Answer.{Answer}
-use Rattle.console.specs.declared.console.Chosen.{Chosen}
-use Rattle.console.specs.declared.console.Chosen.the-variants.{Bytes as ChosenBytes}
-use Rattle.console.specs.Steps.{Shown, Via}
+use Rattle.console.specs.Steps.{Shown}
 
 pub shown-value : (o : Option (List ℕ)) (n : ℕ) (out out′ : List ℕ) → Reads o out (Ok n) out′ → Shown o (ShownBytes n) out′
 shown-value None n out out′ r = let e = r .0 in let z : _≡_ {A = ℕ} 0 1 = cc in absurd (omega arith)
@@ -31,7 +28,3 @@ shown-wrong p h out out′ Unissued None is long r = refl
 shown-wrong p h out out′ Short None is long r = refl
 shown-wrong p h out out′ Unissued (Some x) is long r = absurd r
 shown-wrong p h out out′ Short (Some x) is long r = let b = holds p h x is in absurd (omega (arith, b .short, r .0))
-
--- with a provider chosen, its own answer counts
-pub via-bytes : (c : Chosen) (a : Answer) (P : Type 0) → c ≡ ChosenBytes → P → Via c a P
-via-bytes c a P e p = subst (λ (d : Chosen). Via d a P) (sym e) p

@@ -10,7 +10,7 @@ use Rattle.provider.specs.Meaning.{on}
 use Rattle.provider.specs.declared.Making.{Making}
 use Rattle.provider.specs.declared.Making.the-variants.{Atom, Join, Left, Right, Seal, Open, Digest, Entry, Mate}
 use Rattle.console.specs.declared.call.Call.{Call}
-use Rattle.console.specs.declared.call.Call.the-variants.{ChooseBytes, Make, Fits, Same, Show}
+use Rattle.console.specs.declared.call.Call.the-variants.{ChooseBytes, ChooseSymbolic, Make, Fits, Same, Show}
 use Rattle.console.specs.Words.{number-of}
 
 abbrev pub making-one : List ℕ → ℕ → Option Making
@@ -34,9 +34,15 @@ make m = on m (λ x. Some (Make x))
 abbrev pub fits : Option Making → Option Call
 fits m = on m (λ x. Some (Fits x))
 
+-- the choice of the provider that a word names
+abbrev pub choice : List ℕ → Option Call
+choice a =
+    cond (sameBytes a (codes "bytes")) (Some ChooseBytes)
+    (cond (sameBytes a (codes "symbolic")) (Some ChooseSymbolic) None)
+
 abbrev pub call-two : List ℕ → List ℕ → Option Call
 call-two w a =
-    cond (sameBytes w (codes "provider")) (cond (sameBytes a (codes "bytes")) (Some ChooseBytes) None)
+    cond (sameBytes w (codes "provider")) (choice a)
     (on (number-of a) (λ x. cond (sameBytes w (codes "show")) (Some (Show x)) (make (making-one w x))))
 
 abbrev pub call-three : List ℕ → List ℕ → List ℕ → Option Call

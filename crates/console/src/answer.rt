@@ -6,6 +6,7 @@ use provider::Making;
 use provider::Provider;
 use provider::ProviderError;
 use provider::perform;
+use terms::TermNode;
 
 #[derive(Clone, Copy)]
 pub enum Answer {
@@ -17,6 +18,8 @@ pub enum Answer {
     No,
     // how many bytes the value has
     Bytes(usize),
+    // the term by its name or by the handles of its parts
+    Term(TermNode),
     Unread,
 }
 

@@ -1,6 +1,6 @@
 // The calls, and how a line writes them.
 ghost use mathlib.Core.Path.{_≡_};
-ghost use Rattle.console.specs.Calls.{making-one, making-two, call-two, call-three, call-four, call-of};
+ghost use Rattle.console.specs.Calls.{making-one, making-two, choice, call-two, call-three, call-four, call-of};
 ghost use Rattle.console.specs.Words.{split};
 use crate::number::number;
 use crate::words::Words;
@@ -13,6 +13,8 @@ use provider::Making;
 pub enum Call {
     // choose a new blank byte provider
     ChooseBytes,
+    // choose a new blank symbolic provider
+    ChooseSymbolic,
     Make(Making),
     Fits(Making),
     Same(Handle, Handle),
@@ -55,16 +57,25 @@ fn making_of_two(word: &[u8], a: usize, b: usize) -> Option<Making>
     }
 }
 
+// The choice of the provider that a word names.
+fn choice_of(word: &[u8]) -> Option<Call>
+    ensures { λ r. ⌜ r ≡ choice (now (word .entry)) ⌝ }
+{
+    if is(word, b"bytes") {
+        Some(Call::ChooseBytes)
+    } else if is(word, b"symbolic") {
+        Some(Call::ChooseSymbolic)
+    } else {
+        None
+    }
+}
+
 // The call of two words.
 fn call_of_two(word: &[u8], a: &[u8]) -> Option<Call>
     ensures { λ r. ⌜ r ≡ call-two (now (word .entry)) (now (a .entry)) ⌝ }
 {
     if is(word, b"provider") {
-        return if is(a, b"bytes") {
-            Some(Call::ChooseBytes)
-        } else {
-            None
-        };
+        return choice_of(a);
     }
     let a = number(a)?;
     if is(word, b"show") {

@@ -86,5 +86,8 @@ fn main(rt: LibcRuntime) -> io::Result<()> {
             None => return println!(rt, "table {table}: the one pass and the recursion differ"),
         }
     }
-    println!(rt, "3000 tables: the one pass and the recursion agree on {judged} terms")
+    println!(
+        rt,
+        "3000 tables: the one pass and the recursion agree on {judged} terms"
+    )
 }

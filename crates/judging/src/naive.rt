@@ -4,20 +4,31 @@ use terms::TermNode;
 use terms::Terms;
 
 // Whether a term is held, or both its parts are composable.
-pub(crate) fn composes<const N: usize>(terms: &Terms<N>, held: &[bool; N], id: TermId, depth: usize) -> bool {
+pub(crate) fn composes<const N: usize>(
+    terms: &Terms<N>,
+    held: &[bool; N],
+    id: TermId,
+    depth: usize,
+) -> bool {
     if depth == 0 || id >= N {
         return false;
     }
     match terms.get(id) {
         None => false,
         Some(_) if held[id] => true,
-        Some(TermNode::Built(_, a, b)) => composes(terms, held, a, depth - 1) && composes(terms, held, b, depth - 1),
+        Some(TermNode::Built(_, a, b)) => composes(terms, held, a, depth - 1)
+            && composes(terms, held, b, depth - 1),
         Some(TermNode::Name(_, _) | TermNode::Mate(_)) => false,
     }
 }
 
 // The first name or mate, from left to right, for want of which a term is not composable.
-pub(crate) fn misses<const N: usize>(terms: &Terms<N>, held: &[bool; N], id: TermId, depth: usize) -> Option<TermId> {
+pub(crate) fn misses<const N: usize>(
+    terms: &Terms<N>,
+    held: &[bool; N],
+    id: TermId,
+    depth: usize,
+) -> Option<TermId> {
     if depth == 0 || id >= N {
         return None;
     }

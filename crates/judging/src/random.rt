@@ -16,7 +16,9 @@ impl Random {
         requires { ⌜ 0 < n ⌝ }
         ensures { λ r. ⌜ r < n ⌝ }
     {
-        let x = self.state.wrapping_mul(6364136223846793005).wrapping_add(1442695040888963407);
+        let x = self.state
+            .wrapping_mul(6364136223846793005)
+            .wrapping_add(1442695040888963407);
         self.state = x;
         (x >> 33) as usize % n
     }

@@ -6,7 +6,8 @@ use native.Mathlib.Omega.{arith}
 use lib.ListN.{length, length-append}
 use Rattle.std.specs.declared.option.Option.{Option}
 use Rattle.std.specs.declared.option.Option.the-variants.{None, Some}
-use Rattle.deduction.specs.Term.{party, number, shared, public, table, function, Form, pair, sealed, digest, entry, Term, name, built, mate, opener, In, among}
+use Rattle.deduction.specs.Term.{party, number, shared, public, table, function, Form, pair, sealed, digest, entry, Term, name, built, mate, opener}
+use Rattle.deduction.specs.Term.{In, among}
 use Rattle.deduction.specs.Compose.{Composable}
 use Rattle.deduction.proofs.Compose.{held-composable}
 use Rattle.rules.specs.Script.{Op, LEFT, RIGHT, OPEN, Line, Script, line, _then_, held}
@@ -14,13 +15,13 @@ use Rattle.rules.specs.Compose.{Composed, compose}
 use Rattle.rules.specs.Saturate.{takeApart, Saturates, saturate}
 use Rattle.rules.specs.Walk.{walked, unlocked, apart, walk}
 use Rattle.rules.specs.Effects.{knows, freshen, freshens, sends, sent, received, overheard}
-use Rattle.rules.specs.Grows.{Begins, Grows, stays, adds, Builds, Fits, Free}
+use Rattle.rules.specs.Grows.{Begins, Grows, stays, adds, Builds, Fits}
 use Rattle.rules.specs.Theorems.{RulesOnlyAppend}
 use Rattle.rules.proofs.Find.{some-none}
 use Rattle.rules.proofs.Grows.{grows-join, grows-one, grows-begins, grows-map}
 use Rattle.rules.proofs.Nth.{some-is}
 use Rattle.rules.proofs.Compose.{Any, any-within, composed-makes}
-use Rattle.rules.proofs.Saturate.{any-closed, took, saturates-grows, saturate-saturates}
+use Rattle.rules.proofs.Saturate.{any-closed, Free, took, saturates-grows, saturate-saturates}
 use Rattle.rules.proofs.Effects.{knows-right, received-right, overheard-right}
 
 pub begins-length : (s s′ : Script) → Begins s s′ → length s ≤ length s′
@@ -48,7 +49,8 @@ take-longer s s1 e = let w = took Any any-closed Free s (λ t h. tt) s1 e in go 
   where
     go : {x : Script} → Grows (Fits Any Free) s x → (t : Term) → (Composable (held s) t → ⊥) → In t (held x) → length s < length x
     go stays t un h = absurd (un (held-composable (among (held s)) t h))
-    go (adds {s1 = y} {l = l} g q) t un h = let a = begins-length s y (grows-begins (Fits Any Free) g) in let b = length-append y (l ∷ []) in omega arith
+    go (adds {s1 = y} {l = l} g q) t un h =
+        let a = begins-length s y (grows-begins (Fits Any Free) g) in let b = length-append y (l ∷ []) in omega arith
 
 -- walking
 walked-any : (s : Script) (op : Op) (t : Term) (next : Script → Script) → Grows Any-line (s then line op (Some t)) (next (s then line op (Some t)))
@@ -63,12 +65,12 @@ walk-any (built f a b) s op =
     (compose (s then line op None) (built f a b)) refl
   where
     opens : (s1 : Script) → ((x : Script) (o : Op) → Grows Any-line x (walk x o a)) → (o : Option Composed) → compose s1 (opener b) ≡ o
-      → Grows Any-line s1 (unlocked s1 o (λ x i. walk x (OPEN (length s) i) a))
+        → Grows Any-line s1 (unlocked s1 o (λ x i. walk x (OPEN (length s) i) a))
     opens s1 wa None e = stays
     opens s1 wa (Some c) e = grows-join Any-line (composed-any s1 (opener b) c e) (wa (c .script) (OPEN (length s) (c .slot)))
 
     go : (g : Form) → ((x : Script) (o : Op) → Grows Any-line x (walk x o a)) → ((x : Script) (o : Op) → Grows Any-line x (walk x o b))
-      → Grows Any-line (s then line op (Some (built f a b))) (apart g (length s) b (λ x o. walk x o a) (λ x o. walk x o b) (s then line op (Some (built f a b))))
+        → Grows Any-line (s then line op (Some (built f a b))) (apart g (length s) b (λ x o. walk x o a) (λ x o. walk x o b) (s then line op (Some (built f a b))))
     go pair wa wb =
         let s1 : Script = s then line op (Some (built f a b)) in
         grows-join Any-line (wa s1 (LEFT (length s))) (wb (walk s1 (LEFT (length s)) a) (RIGHT (length s)))
@@ -109,7 +111,8 @@ sent-begins s fresh m address s′ e = grows-begins Any-line (go (compose (fresh
   where
     go : (o : Option Composed) → compose (freshens s fresh) m ≡ o → sends address o ≡ Some s′ → Grows Any-line s s′
     go None q x = absurd (some-none None x refl)
-    go (Some c) q x = subst (Grows Any-line s) (some-is x) (adds (grows-join Any-line (freshens-any s fresh) (composed-any (freshens s fresh) m c q)) tt)
+    go (Some c) q x =
+        subst (Grows Any-line s) (some-is x) (adds (grows-join Any-line (freshens-any s fresh) (composed-any (freshens s fresh) m c q)) tt)
 
 pub rules-only-append : RulesOnlyAppend
 rules-only-append s =

@@ -76,28 +76,28 @@ module _ (past : History) (ts : List Term) (v : Numbered past ts) where
 
   -- a two-part term of known parts
   pub formed-numbered : (f : Form) (a b : ℕ) (x y : Term) → nth ts a ≡ Some x → nth ts b ≡ Some y → PartsFit f x y → (In (built f x y) ts → ⊥)
-    → Numbered (formed f a b (length ts) ∷ past) (ts ++ (built f x y ∷ []))
+      → Numbered (formed f a b (length ts) ∷ past) (ts ++ (built f x y ∷ []))
   formed-numbered f a b x y ea eb fit unseen =
       numbered-news past ts v (formed f a b (length ts)) (built f x y ∷ [])
       (one-news (formed f a b (length ts)) (built f x y)
-        (λ n u e q. (e, (x, y, v .stands-from a x ea, v .stands-from b y eb, q)))
-        (λ n u w. (w .0, w .1 .4 ∙ (ap (λ z. built f z (w .1 .1)) (stands-one a x (w .1 .0) ea (w .1 .2)) ∙ ap (built f x) (stands-one b y (w .1 .1) eb (w .1 .3)))))
-        refl (λ p u o. o)
-        (v .formed x (nth-in ts a x ea), v .formed y (nth-in ts b y eb), fit) unseen
-        (λ k i e. let z : _≡_ {A = ℕ} 0 1 = cc in omega arith) refl
-        (λ g c d e. let ec : x ≡ c = cc in let ed : y ≡ d = cc in (subst (λ z. In z ts) ec (nth-in ts a x ea), subst (λ z. In z ts) ed (nth-in ts b y eb)))
-        (λ k e. let z : _≡_ {A = ℕ} 0 1 = cc in absurd (omega arith)))
+      (λ n u e q. (e, (x, y, v .stands-from a x ea, v .stands-from b y eb, q)))
+      (λ n u w. (w .0, w .1 .4 ∙ (ap (λ z. built f z (w .1 .1)) (stands-one a x (w .1 .0) ea (w .1 .2)) ∙ ap (built f x) (stands-one b y (w .1 .1) eb (w .1 .3)))))
+      refl (λ p u o. o)
+      (v .formed x (nth-in ts a x ea), v .formed y (nth-in ts b y eb), fit) unseen
+      (λ k i e. let z : _≡_ {A = ℕ} 0 1 = cc in omega arith) refl
+      (λ g c d e. let ec : x ≡ c = cc in let ed : y ≡ d = cc in (subst (λ z. In z ts) ec (nth-in ts a x ea), subst (λ z. In z ts) ed (nth-in ts b y eb)))
+      (λ k e. let z : _≡_ {A = ℕ} 0 1 = cc in absurd (omega arith)))
 
   -- the mate of a known entry
   pub mated-numbered : (a : ℕ) (f : Form) (x y : Term) → nth ts a ≡ Some (built f x y) → KeyForm f → (In (mate (built f x y)) ts → ⊥)
-    → Numbered (mated a (length ts) ∷ past) (ts ++ (mate (built f x y) ∷ []))
+      → Numbered (mated a (length ts) ∷ past) (ts ++ (mate (built f x y) ∷ []))
   mated-numbered a f x y ea key unseen =
       numbered-news past ts v (mated a (length ts)) (mate (built f x y) ∷ [])
       (one-news (mated a (length ts)) (mate (built f x y))
-        (λ n u e q. (e, (built f x y, v .stands-from a (built f x y) ea, q)))
-        (λ n u w. (w .0, w .1 .2 ∙ ap mateOf (stands-one a (built f x y) (w .1 .0) ea (w .1 .1))))
-        refl (λ p u o. o)
-        (v .formed (built f x y) (nth-in ts a (built f x y) ea), key) unseen
-        (λ k i e. let z : _≡_ {A = ℕ} 0 1 = cc in omega arith) refl
-        (λ g c d e. let z : _≡_ {A = ℕ} 0 1 = cc in absurd (omega arith))
-        (λ k e. let q : built f x y ≡ k = cc in subst (λ z. In z ts) q (nth-in ts a (built f x y) ea)))
+      (λ n u e q. (e, (built f x y, v .stands-from a (built f x y) ea, q)))
+      (λ n u w. (w .0, w .1 .2 ∙ ap mateOf (stands-one a (built f x y) (w .1 .0) ea (w .1 .1))))
+      refl (λ p u o. o)
+      (v .formed (built f x y) (nth-in ts a (built f x y) ea), key) unseen
+      (λ k i e. let z : _≡_ {A = ℕ} 0 1 = cc in omega arith) refl
+      (λ g c d e. let z : _≡_ {A = ℕ} 0 1 = cc in absurd (omega arith))
+      (λ k e. let q : built f x y ≡ k = cc in subst (λ z. In z ts) q (nth-in ts a (built f x y) ea)))

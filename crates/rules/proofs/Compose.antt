@@ -51,10 +51,10 @@ module _ (P : Term → Type 0) (s : Script) (f : Form) (a b : Term) (w : P (buil
       go (inl h) = unheld h
       go (inr c) = r (grows-composable (Builds P) (ma .grows) b (c .1))
   whole-right x ma (Some y) mb = record {
-      grows = adds (grows-join (Builds P) (ma .grows) (mb .grows)) new;
-      holds = holds-last (y .script) (builder f (x .slot) (y .slot)) T;
-      smaller = λ u h. last u (held-then (y .script) (line (builder f (x .slot) (y .slot)) (Some T)) u h)
-    }
+    grows = adds (grows-join (Builds P) (ma .grows) (mb .grows)) new;
+    holds = holds-last (y .script) (builder f (x .slot) (y .slot)) T;
+    smaller = λ u h. last u (held-then (y .script) (line (builder f (x .slot) (y .slot)) (Some T)) u h);
+  }
     where
       after : (u : Term) → In u (held (y .script)) → In u (held s) ⊎ (size u < size T)
       after u h = second (mb .smaller u h)
@@ -76,12 +76,18 @@ module _ (P : Term → Type 0) (s : Script) (f : Form) (a b : Term) (w : P (buil
 
       new : Builds P (y .script) (line (builder f (x .slot) (y .slot)) (Some T))
       new = record {
-          form = f; first = a; second = b; slot-1 = x .slot; slot-2 = y .slot; op-is = refl; holds-is = refl;
-          first-held = grows-holds (Builds P) (mb .grows) (x .slot) a (ma .holds);
-          second-held = mb .holds;
-          unheld = fresh;
-          within = w
-        }
+        form = f;
+        first = a;
+        second = b;
+        slot-1 = x .slot;
+        slot-2 = y .slot;
+        op-is = refl;
+        holds-is = refl;
+        first-held = grows-holds (Builds P) (mb .grows) (x .slot) a (ma .holds);
+        second-held = mb .holds;
+        unheld = fresh;
+        within = w;
+      }
 
       last : (u : Term) → In u (held (y .script)) ⊎ (Some T ≡ Some u) → In u (held s) ⊎ (size u ≤ size T)
       last u (inl h) = go (after u h)
@@ -91,7 +97,8 @@ module _ (P : Term → Type 0) (s : Script) (f : Form) (a b : Term) (w : P (buil
           go (inr l) = inr (omega arith)
       last u (inr e) = let q : T ≡ u = cc in inr (omega (arith, ap size q))
 
-  both-right : (o : Option Composed) → ComposedRight P s a o → ((s1 : Script) → ComposedRight P s1 b (compose s1 b)) → ComposedRight P s T (both f T o (λ s1. compose s1 b))
+  both-right : (o : Option Composed) → ComposedRight P s a o → ((s1 : Script) → ComposedRight P s1 b (compose s1 b))
+      → ComposedRight P s T (both f T o (λ s1. compose s1 b))
   both-right None r next = λ m. go m
     where
       go : In T (held s) ⊎ (Composable (held s) a × Composable (held s) b) → ⊥
@@ -108,7 +115,7 @@ compose-right P (name k i) w s = go (find s (name k i)) refl
 compose-right P (built f a b) w s = go (compose-right P a (w .1) s) (compose-right P b (w .2)) (find s (built f a b)) refl
   where
     go : ComposedRight P s a (compose s a) → ((s1 : Script) → ComposedRight P s1 b (compose s1 b)) → (o : Option ℕ) → find s (built f a b) ≡ o
-      → ComposedRight P s (built f a b) (orBoth s o (both f (built f a b) (compose s a) (λ s1. compose s1 b)))
+        → ComposedRight P s (built f a b) (orBoth s o (both f (built f a b) (compose s a) (λ s1. compose s1 b)))
     go ra rb None e = both-right P s f a b (w .0) (unfound-unheld s (built f a b) e) (compose s a) ra rb
     go ra rb (Some n) e = found-makes P s (built f a b) n e
 compose-right P (mate k) w s = go (find s (mate k)) refl
@@ -162,7 +169,7 @@ missing-right s (built f a b) = go (find s (built f a b)) refl (missing s a) (mi
     neither e n (inr c) = n c
 
     go : (o : Option ℕ) → find s (built f a b) ≡ o → (x : Option Term) → MissingRight s a x → (y : Option Term) → MissingRight s b y
-      → MissingRight s (built f a b) (unlessFound o (orElse x y))
+        → MissingRight s (built f a b) (unlessFound o (orElse x y))
     go (Some n) e x p y q = inl (holds-held s n (built f a b) (find-holds s (built f a b) n e))
     go None e (Some u) p y q = (neither e (λ c. p .0 (c .0)), p .1, p .2, inr (in-left u (parts a) (parts b) (p .3)))
     go None e None p (Some u) q = (neither e (λ c. q .0 (c .1)), q .1, q .2, inr (in-right u (parts a) (parts b) (q .3)))

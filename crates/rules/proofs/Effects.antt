@@ -63,7 +63,7 @@ module _ (P : Term → Type 0) (c : Closed P) (G : Op → Term → Type 0) where
     pub saturated : Saturated (held s′)
 
   pub received-right : (s : Script) (who m : Term) → ((u : Term) → In u (held s) → P u) → P who → P m → G (FROM who) who → G (RECV m) m
-    → Received s who m (received s who m)
+      → Received s who m (received s who m)
   received-right s who m all pw pm gw gm =
       let s1 : Script = heardFrom s who (compose (s then line (FROM who) None) who) in
       let h = heard-right s who pw gw in
@@ -93,7 +93,7 @@ module _ (P : Term → Type 0) (c : Closed P) (G : Op → Term → Type 0) where
     pub saturated : Saturated (held s′)
 
   pub overheard-right : (s : Script) (from to m : Term) → ((u : Term) → In u (held s) → P u) → P from → P to → P m
-    → G (FROM from) from → G (TO to) to → G (RECV m) m → Overheard s from to m (overheard s from to m)
+      → G (FROM from) from → G (TO to) to → G (RECV m) m → Overheard s from to m (overheard s from to m)
   overheard-right s from to m all pf pt pm gf gt gm =
       let s1 : Script = overhears s (FROM from) from in
       let s2 : Script = overhears s1 (TO to) to in
@@ -105,7 +105,8 @@ module _ (P : Term → Type 0) (c : Closed P) (G : Op → Term → Type 0) where
       let z = saturate-grows P c G s3 (grows-within P G a all) in
       record {
         grows = grows-join (Fits P G) a z;
-        from-made = grows-composable (Fits P G) z from (grows-composable (Fits P G) (h3 .grows) from (grows-composable (Fits P G) (h2 .grows) from (h1 .made)));
+        from-made =
+            grows-composable (Fits P G) z from (grows-composable (Fits P G) (h3 .grows) from (grows-composable (Fits P G) (h2 .grows) from (h1 .made)));
         to-made = grows-composable (Fits P G) z to (grows-composable (Fits P G) (h3 .grows) to (h2 .made));
         message-made = grows-composable (Fits P G) z m (h3 .made);
         saturated = saturate-ends s3;
@@ -185,27 +186,31 @@ mate-made : (s : Script) (i : ℕ) → In (mate (name public i)) (held (freshen 
 mate-made s i = held-last (s then line (FRESH (name public i)) (Some (name public i))) (MATE (length s)) (mate (name public i))
 
 -- after one fresh name the held terms are the earlier ones, it, and its mate
-freshen-held : (s : Script) (t : Term) → IsName t → (u : Term) → In u (held (freshen s t)) → In u (held s) ⊎ ((u ≡ t) ⊎ ((i : ℕ) × (t ≡ name public i) × (u ≡ mate t)))
+freshen-held : (s : Script) (t : Term) → IsName t → (u : Term) → In u (held (freshen s t))
+    → In u (held s) ⊎ ((u ≡ t) ⊎ ((i : ℕ) × (t ≡ name public i) × (u ≡ mate t)))
 freshen-held s (name k i) y u = go k
   where
     one : (j : Kind) → In u (held (s then line (FRESH (name j i)) (Some (name j i))))
-      → In u (held s) ⊎ ((u ≡ name j i) ⊎ ((x : ℕ) × (name j i ≡ name public x) × (u ≡ mate (name j i))))
+        → In u (held s) ⊎ ((u ≡ name j i) ⊎ ((x : ℕ) × (name j i ≡ name public x) × (u ≡ mate (name j i))))
     one j h = split (held-then s (line (FRESH (name j i)) (Some (name j i))) u h)
       where
-        split : In u (held s) ⊎ (Some (name j i) ≡ Some u) → In u (held s) ⊎ ((u ≡ name j i) ⊎ ((x : ℕ) × (name j i ≡ name public x) × (u ≡ mate (name j i))))
+        split : In u (held s) ⊎ (Some (name j i) ≡ Some u)
+            → In u (held s) ⊎ ((u ≡ name j i) ⊎ ((x : ℕ) × (name j i ≡ name public x) × (u ≡ mate (name j i))))
         split (inl x) = inl x
         split (inr e) = inr (inl (cc))
 
-    go : (j : Kind) → In u (held (freshMate s (name j i) j)) → In u (held s) ⊎ ((u ≡ name j i) ⊎ ((x : ℕ) × (name j i ≡ name public x) × (u ≡ mate (name j i))))
+    go : (j : Kind) → In u (held (freshMate s (name j i) j))
+        → In u (held s) ⊎ ((u ≡ name j i) ⊎ ((x : ℕ) × (name j i ≡ name public x) × (u ≡ mate (name j i))))
     go party h = one party h
     go number h = one number h
     go shared h = one shared h
     go table h = one table h
     go function h = one function h
-    go public h = split (held-then (s then line (FRESH (name public i)) (Some (name public i))) (line (MATE (length s)) (Some (mate (name public i)))) u h)
+    go public h =
+        split (held-then (s then line (FRESH (name public i)) (Some (name public i))) (line (MATE (length s)) (Some (mate (name public i)))) u h)
       where
         split : In u (held (s then line (FRESH (name public i)) (Some (name public i)))) ⊎ (Some (mate (name public i)) ≡ Some u)
-          → In u (held s) ⊎ ((u ≡ name public i) ⊎ ((x : ℕ) × (name public i ≡ name public x) × (u ≡ mate (name public i))))
+            → In u (held s) ⊎ ((u ≡ name public i) ⊎ ((x : ℕ) × (name public i ≡ name public x) × (u ≡ mate (name public i))))
         split (inl x) = one public x
         split (inr e) = inr (inr (i, refl, (cc)))
 freshen-held s (built f a b) y u = absurd y

@@ -97,7 +97,8 @@ found-from : (s : Script) (n : ℕ) (t : Term) (m : ℕ) → findFrom n s t ≡ 
 found-from [] n t m e = absurd (some-none None e refl)
 found-from (l ∷ s) n t m e = go (found-from s (n + 1) t m) (isTerm t (l .holds)) refl e
   where
-    go : (findFrom (n + 1) s t ≡ Some m → (d : ℕ) × (m ≡ (n + 1) + d) × Holds s d t) → (b : Bool) → isTerm t (l .holds) ≡ b → cond b (Some n) (findFrom (n + 1) s t) ≡ Some m → (d : ℕ) × (m ≡ n + d) × Holds (l ∷ s) d t
+    go : (findFrom (n + 1) s t ≡ Some m → (d : ℕ) × (m ≡ (n + 1) + d) × Holds s d t) → (b : Bool) → isTerm t (l .holds) ≡ b
+        → cond b (Some n) (findFrom (n + 1) s t) ≡ Some m → (d : ℕ) × (m ≡ n + d) × Holds (l ∷ s) d t
     go rest true q f = let g : n ≡ m = cc in (zero, omega arith, is-term t (l .holds) q)
     go rest false q f = let w = rest f in let w1 = w .1 in (suc (w .0), omega arith, w .2)
 
@@ -105,7 +106,8 @@ held-found : (s : Script) (n : ℕ) (t : Term) → In t (held s) → (m : ℕ) �
 held-found [] n t h = absurd h
 held-found (l ∷ s) n t h = go (held-found s (n + 1) t) (isTerm t (l .holds)) (l .holds) refl refl h
   where
-    go : (In t (held s) → (m : ℕ) × (findFrom (n + 1) s t ≡ Some m)) → (b : Bool) (o : Option Term) → isTerm t (l .holds) ≡ b → l .holds ≡ o → In t (holding o (held s)) → (m : ℕ) × (cond b (Some n) (findFrom (n + 1) s t) ≡ Some m)
+    go : (In t (held s) → (m : ℕ) × (findFrom (n + 1) s t ≡ Some m)) → (b : Bool) (o : Option Term) → isTerm t (l .holds) ≡ b → l .holds ≡ o
+        → In t (holding o (held s)) → (m : ℕ) × (cond b (Some n) (findFrom (n + 1) s t) ≡ Some m)
     go rest true o q e i = (n, refl)
     go rest false None q e i = rest i
     go rest false (Some u) q e (inl p) =
@@ -117,7 +119,8 @@ found-append : (s more : Script) (n : ℕ) (t : Term) (m : ℕ) → findFrom n s
 found-append [] more n t m e = absurd (some-none None e refl)
 found-append (l ∷ s) more n t m e = go (found-append s more (n + 1) t m) (isTerm t (l .holds)) e
   where
-    go : (findFrom (n + 1) s t ≡ Some m → findFrom (n + 1) (s ++ more) t ≡ Some m) → (b : Bool) → cond b (Some n) (findFrom (n + 1) s t) ≡ Some m → cond b (Some n) (findFrom (n + 1) (s ++ more) t) ≡ Some m
+    go : (findFrom (n + 1) s t ≡ Some m → findFrom (n + 1) (s ++ more) t ≡ Some m) → (b : Bool) → cond b (Some n) (findFrom (n + 1) s t) ≡ Some m
+        → cond b (Some n) (findFrom (n + 1) (s ++ more) t) ≡ Some m
     go rest true f = f
     go rest false f = rest f
 
@@ -125,8 +128,9 @@ lowest-from : (s : Script) (n : ℕ) (t : Term) (m : ℕ) → findFrom n s t ≡
 lowest-from [] n t m e j h = absurd (some-none None e refl)
 lowest-from (l ∷ s) n t m e j h = go (lowest-from s (n + 1) t m) (isTerm t (l .holds)) refl j h e
   where
-    go : (findFrom (n + 1) s t ≡ Some m → (d : ℕ) → Holds s d t → m ≤ (n + 1) + d) → (b : Bool) → isTerm t (l .holds) ≡ b → (d : ℕ) → Holds (l ∷ s) d t
-      → cond b (Some n) (findFrom (n + 1) s t) ≡ Some m → m ≤ n + d
+    go : (findFrom (n + 1) s t ≡ Some m → (d : ℕ) → Holds s d t → m ≤ (n + 1) + d) → (b : Bool) → isTerm t (l .holds) ≡ b → (d : ℕ)
+        → Holds (l ∷ s) d t
+        → cond b (Some n) (findFrom (n + 1) s t) ≡ Some m → m ≤ n + d
     go rest true q d x f = let g : n ≡ m = cc in omega arith
     go rest false q (suc d) x f = let r = rest f d x in omega arith
     go rest false q zero x f =

@@ -19,10 +19,11 @@ use Rattle.rules.specs.Script.{Op, FRESH, MATE, Script, held}
 use Rattle.rules.specs.Effects.{freshens}
 use Rattle.rules.specs.State.{State, nth, occurs, used, freshKind, isFresh, freshAmong, freshNames}
 use Rattle.rules.specs.History.{History, Used, FreshKind, FreshIn, Given}
-use Rattle.rules.specs.Grows.{Grows, Fits, Free, FreshTerm, IsName, Once, Unheld}
+use Rattle.rules.specs.Grows.{Grows, Fits, FreshTerm, IsName, Once, Unheld}
 use Rattle.rules.specs.Invariant.{Stable}
 use Rattle.rules.proofs.Grows.{grows-held, grows-within}
 use Rattle.rules.proofs.Nth.{in-nth}
+use Rattle.rules.proofs.Saturate.{Free}
 use Rattle.rules.proofs.Effects.{Freshening, freshens-grows, freshens-made}
 use Rattle.rules.proofs.Used.{occurs-decides, occurs-in, given-used}
 
@@ -41,7 +42,7 @@ module _ (st : State) (m : Term) where
   fresh-out (u ∷ us) t h = go (fresh-out us t) (isFresh st m u) refl h
     where
       go : (In t (freshAmong st m us) → In t us × (isFresh st m t ≡ true)) → (b : Bool) → isFresh st m u ≡ b
-        → In t (cond b (u ∷ freshAmong st m us) (freshAmong st m us)) → In t (u ∷ us) × (isFresh st m t ≡ true)
+          → In t (cond b (u ∷ freshAmong st m us) (freshAmong st m us)) → In t (u ∷ us) × (isFresh st m t ≡ true)
       go rest true e (inl q) = (inl q, ap (isFresh st m) (sym q) ∙ e)
       go rest true e (inr i) = let w = rest i in (inr (w .0), w .1)
       go rest false e i = let w = rest i in (inr (w .0), w .1)
@@ -50,7 +51,8 @@ module _ (st : State) (m : Term) where
   fresh-in [] t h f = absurd h
   fresh-in (u ∷ us) t h f = go (λ i. fresh-in us t i f) (isFresh st m u) refl h
     where
-      go : (In t us → In t (freshAmong st m us)) → (b : Bool) → isFresh st m u ≡ b → In t (u ∷ us) → In t (cond b (u ∷ freshAmong st m us) (freshAmong st m us))
+      go : (In t us → In t (freshAmong st m us)) → (b : Bool) → isFresh st m u ≡ b → In t (u ∷ us)
+          → In t (cond b (u ∷ freshAmong st m us) (freshAmong st m us))
       go rest true e (inl q) = inl q
       go rest true e (inr i) = inr (rest i)
       go rest false e (inl q) = let r : isFresh st m u ≡ true = ap (isFresh st m) q ∙ f in let z : _≡_ {A = ℕ} 0 1 = cc in absurd (omega arith)
@@ -66,9 +68,10 @@ module _ (st : State) (m : Term) where
 
 apart-once : (ts : List Term) → ((n k : ℕ) (t : Term) → nth ts n ≡ Some t → nth ts k ≡ Some t → n ≡ k) → Once ts
 apart-once [] a = tt
-apart-once (t ∷ ts) a =
-    ((λ i. let w = in-nth ts t i in let q : zero ≡ suc (w .0) = a zero (suc (w .0)) t refl (w .1) in omega arith),
-     apart-once ts (λ n k u e f. let q : suc n ≡ suc k = a (suc n) (suc k) u e f in omega arith))
+apart-once (t ∷ ts) a = (
+  (λ i. let w = in-nth ts t i in let q : zero ≡ suc (w .0) = a zero (suc (w .0)) t refl (w .1) in omega arith),
+  apart-once ts (λ n k u e f. let q : suc n ≡ suc k = a (suc n) (suc k) u e f in omega arith),
+)
 
 module _ (past : History) (st : State) (v : Stable past st) (m : Term) (hm : In m (st .terms)) where
   fresh-decides : (k : Kind) (i : ℕ) → Decides (isFresh st m (name k i)) (FreshKind k × (Occurs k i m × (Used past k i → ⊥)))
@@ -77,7 +80,8 @@ module _ (past : History) (st : State) (v : Stable past st) (m : Term) (hm : In 
       rest : FreshKind k → Decides (occurs k i m && not (used st k i)) (Occurs k i m × (Used past k i → ⊥))
       rest f = decides-and (occurs k i m) (not (used st k i)) (occurs-decides k i m) (decides-not (used st k i) (v .used-right k i f))
 
-      split : (x y : Bool) → freshKind k ≡ x → (occurs k i m && not (used st k i)) ≡ y → (x && y) ≡ true → FreshKind k × (Occurs k i m × (Used past k i → ⊥))
+      split : (x y : Bool) → freshKind k ≡ x → (occurs k i m && not (used st k i)) ≡ y → (x && y) ≡ true
+          → FreshKind k × (Occurs k i m × (Used past k i → ⊥))
       split true true e g h = let f = fresh-kind k .0 e in (f, rest f .0 g)
       split true false e g h = let z : _≡_ {A = ℕ} 0 1 = cc in absurd (omega arith)
       split false y e g h = let z : _≡_ {A = ℕ} 0 1 = cc in absurd (omega arith)
@@ -129,15 +133,21 @@ module _ (past : History) (st : State) (v : Stable past st) (m : Term) (hm : In 
       subst (λ t. In t (st .terms)) (sym (w .1)) (v .numbers .with-mates (w .0) (fresh-out st m (st .terms) (name public (w .0)) (w .2) .0))
 
   pub freshening : (P : Term → Type 0) (G : Op → Term → Type 0) → ((u : Term) → FreshTerm (freshNames st m) u → P u)
-    → ((t : Term) → FreshTerm (freshNames st m) t → G (FRESH t) t) → ((n : ℕ) (t : Term) → FreshTerm (freshNames st m) t → G (MATE n) t) → Freshening P G (freshNames st m)
+      → ((k : Kind) (i : ℕ) → FreshKind k → G (FRESH (name k i)) (name k i)) → ((n i : ℕ) → G (MATE n) (mate (name public i)))
+      → Freshening P G (freshNames st m)
   freshening P G p g h =
       record {
         are-names = λ t i. fresh-named t (fresh-out st m (st .terms) t i .1);
         once = fresh-once st m (st .terms) (apart-once (st .terms) (v .numbers .apart));
         within = p;
-        fresh = λ t i. g t (inl i);
-        mated = λ n i w. h n (mate (name public i)) (inr (i, refl, w));
+        fresh = λ t i. named t (fresh-out st m (st .terms) t i .1);
+        mated = λ n i w. h n i;
       }
+    where
+      named : (t : Term) → isFresh st m t ≡ true → G (FRESH t) t
+      named (name k i) e = g k i (fresh-decides k i .0 e .0)
+      named (built f a b) e = absurd (fresh-named (built f a b) e)
+      named (mate k) e = absurd (fresh-named (mate k) e)
 
   -- for the sender a, whose script is s
   module _ (a : ℕ) (s : Script) (es : nth (st .scripts) a ≡ Some s) where
@@ -164,7 +174,7 @@ module _ (past : History) (st : State) (v : Stable past st) (m : Term) (hm : In 
     fresh-held u = (into, back)
       where
         f : Freshening Now Free (freshNames st m)
-        f = freshening Now Free (λ t x. inr (fresh-to t x)) (λ t x. tt) (λ n t x. tt)
+        f = freshening Now Free (λ t x. inr (fresh-to t x)) (λ k i x. tt) (λ n i. tt)
 
         g : Grows (Fits Now Free) s (freshens s (freshNames st m))
         g = freshens-grows Now Free (freshNames st m) s f fresh-unheld
@@ -184,8 +194,9 @@ module _ (past : History) (st : State) (v : Stable past st) (m : Term) (hm : In 
         (fresh-represents (Given past a) (among (held s)) (FreshIn past m) (v .agent a s es .represents) fresh-for)
 
     -- the fresh names fit
-    pub sender-grows : (G : Op → Term → Type 0) → ((t : Term) → FreshIn past m t → G (FRESH t) t) → ((n : ℕ) (t : Term) → FreshIn past m t → G (MATE n) t)
-      → Grows (Fits (λ t. In t (st .terms)) G) s (freshens s (freshNames st m))
+    pub sender-grows : (G : Op → Term → Type 0) → ((k : Kind) (i : ℕ) → FreshKind k → G (FRESH (name k i)) (name k i))
+        → ((n i : ℕ) → G (MATE n) (mate (name public i)))
+        → Grows (Fits (λ t. In t (st .terms)) G) s (freshens s (freshNames st m))
     sender-grows G g h =
         freshens-grows (λ t. In t (st .terms)) G (freshNames st m) s
-        (freshening (λ t. In t (st .terms)) G fresh-terms (λ t x. g t (fresh-to t x)) (λ n t x. h n t (fresh-to t x))) fresh-unheld
+        (freshening (λ t. In t (st .terms)) G fresh-terms g h) fresh-unheld

@@ -7,13 +7,15 @@ use Prim.Native.Nat.{ℕ}
 use lib.ListN.{length}
 use Rattle.std.specs.declared.option.Option.the-variants.{None, Some}
 use Rattle.std.proofs.shelf.Lists.{append-nil}
-use Rattle.deduction.specs.Term.{party, number, shared, public, table, function, Form, pair, sealed, Term, name, built, mate, opener, Formed, In, among}
+use Rattle.deduction.specs.Term.{party, number, shared, public, table, function, Form, pair, sealed, Term, name, built, mate, opener, Formed, In}
+use Rattle.deduction.specs.Term.{among}
 use Rattle.deduction.specs.Derive.{DerivesFrom, left-half, right-half, opening}
 use Rattle.deduction.specs.Compose.{ComposableFrom, Composable, Saturated}
 use Rattle.deduction.proofs.Derive.{derives-way, derives-built}
 use Rattle.deduction.proofs.Compose.{held-composable, composable-map}
 use Rattle.rules.specs.Script.{Op, MATE, Line, Script, _then_, held}
-use Rattle.rules.specs.Grows.{Holds, Begins, Apart, Grows, stays, adds, Builds, Brings, gives, mates, takes-left, takes-right, opens, Fits, building, bringing, repeating, comparing, sending, Closed, Within}
+use Rattle.rules.specs.Grows.{Holds, Begins, Apart, Grows, stays, adds, Builds, Brings, gives, mates, takes-left, takes-right, opens, Fits, building}
+use Rattle.rules.specs.Grows.{bringing, repeating, comparing, sending, Closed, Within}
 use Rattle.rules.proofs.Find.{some-none, holds-held, holds-append, holds-then, held-append, held-then}
 
 module _ (Q : Script → Line → Type 0) where
@@ -86,9 +88,10 @@ module _ (P : Term → Type 0) (s : Script) (l : Line) (q : Builds P s l) where
       two f a b e =
           let h = q .holds-is in
           let fa : q .first ≡ a = cc in
-          let fb : q .second ≡ b = cc in
-          (subst (Composable (held s)) fa (holds-composable s (q .slot-1) (q .first) (q .first-held)),
-           subst (Composable (held s)) fb (holds-composable s (q .slot-2) (q .second) (q .second-held)))
+          let fb : q .second ≡ b = cc in (
+            subst (Composable (held s)) fa (holds-composable s (q .slot-1) (q .first) (q .first-held)),
+            subst (Composable (held s)) fb (holds-composable s (q .slot-2) (q .second) (q .second-held)),
+          )
 
       lefts : (a b : Term) → In (built pair a b) (held (s then l)) → Composable (held (s then l)) a
       lefts a b h = go (held-then s l (built pair a b) h)
@@ -126,7 +129,8 @@ module _ (P : Term → Type 0) where
 -- what a fitting line holds
 module _ (P : Term → Type 0) (G : Op → Term → Type 0) where
   fits-new : (s : Script) (l : Line) → Fits P G s l → (t : Term) → l .holds ≡ Some t → In t (held s) → ⊥
-  fits-new s l (building q) t e h = let i = q .holds-is in let f : t ≡ built (q .form) (q .first) (q .second) = cc in q .unheld (subst (λ x. In x (held s)) f h)
+  fits-new s l (building q) t e h =
+      let i = q .holds-is in let f : t ≡ built (q .form) (q .first) (q .second) = cc in q .unheld (subst (λ x. In x (held s)) f h)
   fits-new s l (bringing {t = u} b n p) t e h = let f : t ≡ u = cc in n (subst (λ x. In x (held s)) f h)
   fits-new s l (repeating b c) t e h = some-none None e refl
   fits-new s l (comparing b c) t e h = some-none None e refl
@@ -173,29 +177,33 @@ module _ (P : Term → Type 0) (G : Op → Term → Type 0) where
     brings-derived s d (opens {n} {o} {c} {k} h i) =
         derives-way E (opening {k = k} (d (built sealed c k) (holds-held s n (built sealed c k) h)) (d (opener k) (holds-held s o (opener k) i)))
 
-    fits-derived : (s : Script) (l : Line) → Fits P G s l → ((t : Term) → In t (held s) → DerivesFrom E t) → (t : Term) → l .holds ≡ Some t → DerivesFrom E t
+    fits-derived : (s : Script) (l : Line) → Fits P G s l → ((t : Term) → In t (held s) → DerivesFrom E t) → (t : Term) → l .holds ≡ Some t
+        → DerivesFrom E t
     fits-derived s l (building q) d t e =
         let i = q .holds-is in
         let f : built (q .form) (q .first) (q .second) ≡ t = cc in
         subst (DerivesFrom E) f
         (derives-built E (q .form) (q .first) (q .second) (formed (built (q .form) (q .first) (q .second)) (q .within) .2)
-          (d (q .first) (holds-held s (q .slot-1) (q .first) (q .first-held))) (d (q .second) (holds-held s (q .slot-2) (q .second) (q .second-held))))
+        (d (q .first) (holds-held s (q .slot-1) (q .first) (q .first-held))) (d (q .second) (holds-held s (q .slot-2) (q .second) (q .second-held))))
     fits-derived s l (bringing {t = u} b n p) d t e = let f : u ≡ t = cc in subst (DerivesFrom E) f (brings-derived s d b)
     fits-derived s l (repeating b c) d t e = absurd (some-none None e refl)
     fits-derived s l (comparing b c) d t e = absurd (some-none None e refl)
     fits-derived s l (sending b c) d t e = absurd (some-none None e refl)
 
-    pub grows-derived : {s s1 : Script} → Grows (Fits P G) s s1 → ((t : Term) → In t (held s) → DerivesFrom E t) → (t : Term) → In t (held s1) → DerivesFrom E t
+    pub grows-derived : {s s1 : Script} → Grows (Fits P G) s s1 → ((t : Term) → In t (held s) → DerivesFrom E t) → (t : Term) → In t (held s1)
+        → DerivesFrom E t
     grows-derived = grows-keeps (Fits P G) (λ s. (t : Term) → In t (held s) → DerivesFrom E t) each
       where
-        each : (s : Script) (l : Line) → Fits P G s l → ((t : Term) → In t (held s) → DerivesFrom E t) → (t : Term) → In t (held (s then l)) → DerivesFrom E t
+        each : (s : Script) (l : Line) → Fits P G s l → ((t : Term) → In t (held s) → DerivesFrom E t) → (t : Term) → In t (held (s then l))
+            → DerivesFrom E t
         each s l q all t h = go (held-then s l t h)
           where
             go : In t (held s) ⊎ (l .holds ≡ Some t) → DerivesFrom E t
             go (inl x) = all t x
             go (inr e) = fits-derived s l q all t e
 
-pub brings-map : (G G′ : Op → Term → Type 0) → ((op : Op) (t : Term) → G op t → G′ op t) → (s : Script) {op : Op} {t : Term} → Brings G s op t → Brings G′ s op t
+pub brings-map : (G G′ : Op → Term → Type 0) → ((op : Op) (t : Term) → G op t → G′ op t) → (s : Script) {op : Op} {t : Term} → Brings G s op t
+    → Brings G′ s op t
 brings-map G G′ g s (gives {op} {t} n x) = gives n (g op t x)
 brings-map G G′ g s (mates {n} {k} h x) = mates h (g (MATE n) (mate k) x)
 brings-map G G′ g s (takes-left h) = takes-left h
@@ -206,8 +214,19 @@ brings-map G G′ g s (opens h i) = opens h i
 pub fits-map : (P P′ : Term → Type 0) (G G′ : Op → Term → Type 0) → ((t : Term) → P t → P′ t) → ((op : Op) (t : Term) → G op t → G′ op t)
     → (s : Script) (l : Line) → Fits P G s l → Fits P′ G′ s l
 fits-map P P′ G G′ p g s l (building q) =
-    building (record { form = q .form; first = q .first; second = q .second; slot-1 = q .slot-1; slot-2 = q .slot-2; op-is = q .op-is; holds-is = q .holds-is;
-      first-held = q .first-held; second-held = q .second-held; unheld = q .unheld; within = p (built (q .form) (q .first) (q .second)) (q .within) })
+    building (record {
+      form = q .form;
+      first = q .first;
+      second = q .second;
+      slot-1 = q .slot-1;
+      slot-2 = q .slot-2;
+      op-is = q .op-is;
+      holds-is = q .holds-is;
+      first-held = q .first-held;
+      second-held = q .second-held;
+      unheld = q .unheld;
+      within = p (built (q .form) (q .first) (q .second)) (q .within);
+    })
 fits-map P P′ G G′ p g s l (bringing {t = t} b n w) = bringing (brings-map G G′ g s b) n (p t w)
 fits-map P P′ G G′ p g s l (repeating b c) = repeating (brings-map G G′ g s b) c
 fits-map P P′ G G′ p g s l (comparing b c) = comparing (b .0, b .1, b .2, b .3, b .4, brings-map G G′ g (b .0) (b .5)) c

@@ -10,7 +10,8 @@ use Rattle.std.specs.Orderings.{Decides}
 use Rattle.std.specs.declared.option.Option.the-variants.{None, Some}
 use Rattle.std.proofs.shelf.Lists.{append-nil}
 use Rattle.std.proofs.shelf.Ways.{decides-like, decides-at}
-use Rattle.deduction.specs.Term.{Kind, party, number, shared, public, table, function, Form, pair, sealed, Term, name, built, Formed, Occurs, In, among}
+use Rattle.deduction.specs.Term.{Kind, party, number, shared, public, table, function, Form, pair, sealed, Term, name, built, Formed, Occurs, In}
+use Rattle.deduction.specs.Term.{among}
 use Rattle.deduction.specs.Derive.{DerivesFrom}
 use Rattle.deduction.specs.Compose.{Composable, Saturated, Represents}
 use Rattle.deduction.proofs.Members.{in-left, in-right}
@@ -19,7 +20,7 @@ use Rattle.deduction.proofs.Compose.{represents-same}
 use Rattle.rules.specs.Script.{Op, GIVEN, Script, line, held}
 use Rattle.rules.specs.State.{State, blank, Told, named, nth, usedInSome, usedInSteps, used, newTerms, newScripts, names}
 use Rattle.rules.specs.History.{History, Stands, opens, parties, Shows, Shown, Used, FreshKind, Gives, Given}
-use Rattle.rules.specs.Grows.{Apart, Grows, stays, adds, gives, Fits, bringing, Free, Written}
+use Rattle.rules.specs.Grows.{Apart, Grows, stays, adds, gives, Fits, bringing, Proper, Written}
 use Rattle.rules.specs.Invariant.{Numbered, Agent, Stable}
 use Rattle.rules.proofs.Find.{some-none}
 use Rattle.rules.proofs.Grows.{grows-join, grows-map, grows-composable, grows-apart, grows-within, grows-derived, fits-map}
@@ -28,15 +29,15 @@ use Rattle.rules.proofs.Numbers.{numbered-blank, named-numbered}
 use Rattle.rules.proofs.Used.{or-false, used-older, used-more}
 
 pub written-held : (ts : List Term) (s : Script) → Written ts s → (t : Term) → In t (held s) → In t ts
-written-held ts s w = grows-within (λ t. In t ts) Free w (λ t h. absurd h)
+written-held ts s w = grows-within (λ t. In t ts) Proper w (λ t h. absurd h)
 
 pub written-apart : (ts : List Term) (s : Script) → Written ts s → Apart s
-written-apart ts s w = grows-apart (λ t. In t ts) Free w (λ i j t h. absurd (some-none None h refl))
+written-apart ts s w = grows-apart (λ t. In t ts) Proper w (λ i j t h. absurd (some-none None h refl))
 
 written-more : (ts new : List Term) (s : Script) → Written ts s → Written (ts ++ new) s
 written-more ts new s =
-    grows-map (Fits (λ t. In t ts) Free) (Fits (λ t. In t (ts ++ new)) Free)
-    (fits-map (λ t. In t ts) (λ t. In t (ts ++ new)) Free Free (λ t h. in-left t ts new h) (λ op t g. g))
+    grows-map (Fits (λ t. In t ts) Proper) (Fits (λ t. In t (ts ++ new)) Proper)
+    (fits-map (λ t. In t ts) (λ t. In t (ts ++ new)) Proper Proper (λ t h. in-left t ts new h) (λ op t g. g))
 
 pub represents-given : (H G G′ : Term → Type 0) → ((t : Term) → G t ↔ G′ t) → Represents H G → Represents H G′
 represents-given H G G′ = represents-same H H G G′ (λ t. ((λ h. h), (λ h. h)))
@@ -51,20 +52,22 @@ module _ (past : History) (d : Told) (p : ℕ) (s : Script) (nothing : (t : Term
       back (inr g) = absurd (nothing t g)
 
   pub agent-same : (ts : List Term) → Agent past ts p s → Agent (d ∷ past) ts p s
-  agent-same ts a = record { represents = represents-given (among (held s)) (Given past p) (Given (d ∷ past) p) given-same (a .represents); written = a .written }
+  agent-same ts a =
+      record { represents = represents-given (among (held s)) (Given past p) (Given (d ∷ past) p) given-same (a .represents); written = a .written }
 
 pub agent-more : (past : History) (p : ℕ) (s : Script) (ts new : List Term) → Agent past ts p s → Agent past (ts ++ new) p s
 agent-more past p s ts new a = record { represents = a .represents; written = written-more ts new s (a .written) }
 
 -- one more call, for which the script grew by lines that fit what it gives
 pub agent-grows : (past : History) (d : Told) (ts : List Term) → ((t : Term) → In t ts → Formed t) → (p : ℕ) (s s1 : Script) → Agent past ts p s
-    → (G : Op → Term → Type 0) → ((op : Op) (t : Term) → G op t → Gives past d p t) → Grows (Fits (λ t. In t ts) G) s s1
+    → (G : Op → Term → Type 0) → ((op : Op) (t : Term) → G op t → Proper op t) → ((op : Op) (t : Term) → G op t → Gives past d p t)
+    → Grows (Fits (λ t. In t ts) G) s s1
     → ((t : Term) → Gives past d p t → Composable (held s1) t) → Saturated (held s1) → Agent (d ∷ past) ts p s1
-agent-grows past d ts formed p s s1 a G given g made saturated =
+agent-grows past d ts formed p s s1 a G proper given g made saturated =
     record {
       represents = record { covers = covers; sound = sound; saturated = saturated };
       written =
-          grows-join (Fits P Free) (a .written) (grows-map (Fits P G) (Fits P Free) (fits-map P P G Free (λ t h. h) (λ op t x. tt)) g);
+          grows-join (Fits P Proper) (a .written) (grows-map (Fits P G) (Fits P Proper) (fits-map P P G Proper (λ t h. h) proper) g);
     }
   where
     P : Term → Type 0
@@ -142,7 +145,12 @@ stable-blank =
         empty : Agent [] [] zero []
         empty =
             record {
-              represents = record { covers = λ t g. absurd g; sound = λ t h. absurd h; saturated = record { lefts = λ a b h. absurd h; rights = λ a b h. absurd h; contents = λ c k h o. absurd h } };
+              represents =
+                  record {
+                    covers = λ t g. absurd g;
+                    sound = λ t h. absurd h;
+                    saturated = record { lefts = λ a b h. absurd h; rights = λ a b h. absurd h; contents = λ c k h o. absurd h };
+                  };
               written = stays;
             }
 
@@ -170,14 +178,16 @@ module _ (past : History) (st : State) (v : Stable past st) where
   counted k = let a = length-append (st .scripts) (newScripts k n) in let b = new-count k in let c = v .count in omega arith
 
   -- the new agent
-  opened : (ts : List Term) → In (name party n) ts → Agent (named party n ∷ past) ts (parties past + 1) (line (GIVEN (name party n)) (Some (name party n)) ∷ [])
+  opened : (ts : List Term) → In (name party n) ts
+      → Agent (named party n ∷ past) ts (parties past + 1) (line (GIVEN (name party n)) (Some (name party n)) ∷ [])
   opened ts mine =
       record {
         represents = record {
-            covers = covers;
-            sound = sound;
-            saturated = record { lefts = λ a b h. absurd (single pair a b h); rights = λ a b h. absurd (single pair a b h); contents = λ c k h o. absurd (single sealed c k h) };
-          };
+          covers = covers;
+          sound = sound;
+          saturated =
+              record { lefts = λ a b h. absurd (single pair a b h); rights = λ a b h. absurd (single pair a b h); contents = λ c k h o. absurd (single sealed c k h) };
+        };
         written = adds stays (bringing (gives refl tt) (λ h. h) mine);
       }
     where
@@ -193,17 +203,20 @@ module _ (past : History) (st : State) (v : Stable past st) where
       sound t (inl e) = derives-given (Given (named party n ∷ past) (parties past + 1)) t (inr (refl, refl, sym e))
       sound t (inr h) = absurd h
 
-  named-agent : (k : Kind) (p : ℕ) (s : Script) → nth (scripts k) p ≡ Some s → In (name k n) (st .terms ++ newTerms k n) → Agent (named k n ∷ past) (st .terms ++ newTerms k n) p s
+  named-agent : (k : Kind) (p : ℕ) (s : Script) → nth (scripts k) p ≡ Some s → In (name k n) (st .terms ++ newTerms k n)
+      → Agent (named k n ∷ past) (st .terms ++ newTerms k n) p s
   named-agent k p s e mine = go (nth-either (st .scripts) (newScripts k n) p s e)
     where
-      new : (j : Kind) (x : ℕ) → j ≡ k → p ≡ x + length (st .scripts) → nth (newScripts j n) x ≡ Some s → Agent (named k n ∷ past) (st .terms ++ newTerms k n) p s
+      new : (j : Kind) (x : ℕ) → j ≡ k → p ≡ x + length (st .scripts) → nth (newScripts j n) x ≡ Some s
+          → Agent (named k n ∷ past) (st .terms ++ newTerms k n) p s
       new party zero q w f =
           let c = v .count in
           let pe : parties past + 1 ≡ p = omega arith in
           let m : In (name party n) (st .terms ++ newTerms k n) = subst (λ j. In (name j n) (st .terms ++ newTerms k n)) (sym q) mine in
           subst (Agent (named k n ∷ past) (st .terms ++ newTerms k n) p) (some-is f)
           (subst (λ x. Agent (named k n ∷ past) (st .terms ++ newTerms k n) x (line (GIVEN (name party n)) (Some (name party n)) ∷ [])) pe
-          (subst (λ j. Agent (named j n ∷ past) (st .terms ++ newTerms k n) (parties past + 1) (line (GIVEN (name party n)) (Some (name party n)) ∷ [])) q (opened (st .terms ++ newTerms k n) m)))
+          (subst (λ j. Agent (named j n ∷ past) (st .terms ++ newTerms k n) (parties past + 1) (line (GIVEN (name party n)) (Some (name party n)) ∷ [])) q
+          (opened (st .terms ++ newTerms k n) m)))
       new party (suc x) q w f = absurd (some-none None f refl)
       new number x q w f = absurd (some-none None f refl)
       new shared x q w f = absurd (some-none None f refl)
@@ -211,7 +224,8 @@ module _ (past : History) (st : State) (v : Stable past st) where
       new table x q w f = absurd (some-none None f refl)
       new function x q w f = absurd (some-none None f refl)
 
-      go : (nth (st .scripts) p ≡ Some s) ⊎ ((x : ℕ) × (p ≡ x + length (st .scripts)) × (nth (newScripts k n) x ≡ Some s)) → Agent (named k n ∷ past) (st .terms ++ newTerms k n) p s
+      go : (nth (st .scripts) p ≡ Some s) ⊎ ((x : ℕ) × (p ≡ x + length (st .scripts)) × (nth (newScripts k n) x ≡ Some s))
+          → Agent (named k n ∷ past) (st .terms ++ newTerms k n) p s
       go (inl h) =
           let b = nth-below (st .scripts) p s h in
           let c = v .count in
@@ -227,9 +241,12 @@ module _ (past : History) (st : State) (v : Stable past st) where
   new-in function = inl refl
 
   new-unused : (k j : Kind) (i : ℕ) → FreshKind j → usedInSome j i (scripts k) ≡ usedInSome j i (st .scripts)
-  new-unused party number i f = used-more number i (st .scripts) (line (GIVEN (name party n)) (Some (name party n)) ∷ []) ∙ or-false (usedInSome number i (st .scripts))
-  new-unused party shared i f = used-more shared i (st .scripts) (line (GIVEN (name party n)) (Some (name party n)) ∷ []) ∙ or-false (usedInSome shared i (st .scripts))
-  new-unused party public i f = used-more public i (st .scripts) (line (GIVEN (name party n)) (Some (name party n)) ∷ []) ∙ or-false (usedInSome public i (st .scripts))
+  new-unused party number i f =
+      used-more number i (st .scripts) (line (GIVEN (name party n)) (Some (name party n)) ∷ []) ∙ or-false (usedInSome number i (st .scripts))
+  new-unused party shared i f =
+      used-more shared i (st .scripts) (line (GIVEN (name party n)) (Some (name party n)) ∷ []) ∙ or-false (usedInSome shared i (st .scripts))
+  new-unused party public i f =
+      used-more public i (st .scripts) (line (GIVEN (name party n)) (Some (name party n)) ∷ []) ∙ or-false (usedInSome public i (st .scripts))
   new-unused party party i f = absurd f
   new-unused party table i f = absurd f
   new-unused party function i f = absurd f
@@ -246,8 +263,9 @@ module _ (past : History) (st : State) (v : Stable past st) where
         count = counted k;
         agent = λ p s e. named-agent k p s e (in-right (name k n) (st .terms) (newTerms k n) (new-in k));
         given-known = known;
-        used-right = λ j i f. decides-at (used (names st k .state) j i) (used st j i) (ap (λ x. x || usedInSteps j i (st .steps)) (new-unused k j i f))
-          (used-still past (named k n) j i (used st j i) (λ t x o. absurd x) (v .used-right j i f));
+        used-right =
+            λ j i f. decides-at (used (names st k .state) j i) (used st j i) (ap (λ x. x || usedInSteps j i (st .steps)) (new-unused k j i f))
+            (used-still past (named k n) j i (used st j i) (λ t x o. absurd x) (v .used-right j i f));
       }
     where
       known : (p : ℕ) (t : Term) → Given (named k n ∷ past) p t → p < length (scripts k)

@@ -18,6 +18,7 @@ use Rattle.rules.specs.Compose.{composes}
 use Rattle.rules.specs.Effects.{knows}
 use Rattle.rules.specs.State.{State, Told, known, nth, occurs, usedIn, usedInSome, usedInSteps, used}
 use Rattle.rules.specs.History.{History, Stands, Shows, Shown, Used, FreshKind, Given}
+use Rattle.rules.specs.Grows.{Proper}
 use Rattle.rules.specs.Invariant.{Agent, Stable}
 use Rattle.rules.proofs.Nth.{nth-in, nth-below, nth-set}
 use Rattle.rules.proofs.Numbers.{numbered-same}
@@ -60,7 +61,7 @@ module _ (past : History) (st : State) (v : Stable past st) (p n : ℕ) (s : Scr
   P u = In u (st .terms)
 
   abbrev G : Op → Term → Type 0
-  G op u = (p ≡ p) × Stands past n u
+  G op u = Proper op u × ((p ≡ p) × Stands past n u)
 
   only : (u : Term) → Stands past n u → u ≡ t
   only u = stands-one past (st .terms) (v .numbers) n t u et
@@ -71,26 +72,26 @@ module _ (past : History) (st : State) (v : Stable past st) (p n : ℕ) (s : Scr
   knower : Agent (d ∷ past) (st .terms) p (knows s t)
   knower =
       let a = v .agent p s es in
-      let w = knows-right P (v .numbers .closed) G s t (written-held (st .terms) s (a .written)) (nth-in (st .terms) n t et) (refl, here) in
-      agent-grows past d (st .terms) (v .numbers .formed) p s (knows s t) a G (λ op u g. g) (w .grows)
+      let w = knows-right P (v .numbers .closed) G s t (written-held (st .terms) s (a .written)) (nth-in (st .terms) n t et) (tt, (refl, here)) in
+      agent-grows past d (st .terms) (v .numbers .formed) p s (knows s t) a G (λ op u g. g .0) (λ op u g. g .1) (w .grows)
       (λ u g. subst (Composable (held (knows s t))) (sym (only u (g .1))) (w .made)) (knows-saturated s t (a .represents .saturated))
 
   knows-decides : (k : Kind) (i : ℕ) → FreshKind k
-    → Decides (usedInSome k i (set (st .scripts) p (knows s t)) || usedInSteps k i (st .steps)) (Used (d ∷ past) k i)
+      → Decides (usedInSome k i (set (st .scripts) p (knows s t)) || usedInSteps k i (st .steps)) (Used (d ∷ past) k i)
   knows-decides k i f = go (knows-used k i s t)
     where
       go : ((composes s t ≡ true) × (usedIn k i (knows s t) ≡ usedIn k i s)) ⊎ (usedIn k i (knows s t) ≡ (usedIn k i s || occurs k i t))
-        → Decides (usedInSome k i (set (st .scripts) p (knows s t)) || usedInSteps k i (st .steps)) (Used (d ∷ past) k i)
+          → Decides (usedInSome k i (set (st .scripts) p (knows s t)) || usedInSteps k i (st .steps)) (Used (d ∷ past) k i)
       go (inl w) =
           decides-at (usedInSome k i (set (st .scripts) p (knows s t)) || usedInSteps k i (st .steps)) (used st k i)
           (ap (λ x. x || usedInSteps k i (st .steps)) (used-set-same k i (st .scripts) p s (knows s t) es (w .1)))
           (used-still past d k i (used st k i)
-            (λ u x o. composable-used past st v p s es t (nth-in (st .terms) n t et) (composes-true s t (w .0)) k i (subst (Occurs k i) (only u x) o))
-            (v .used-right k i f))
+          (λ u x o. composable-used past st v p s es t (nth-in (st .terms) n t et) (composes-true s t (w .0)) k i (subst (Occurs k i) (only u x) o))
+          (v .used-right k i f))
       go (inr e) =
           decides-at (usedInSome k i (set (st .scripts) p (knows s t)) || usedInSteps k i (st .steps)) (used st k i || occurs k i t)
           (ap (λ x. x || usedInSteps k i (st .steps)) (used-set k i (st .scripts) p s (knows s t) (occurs k i t) es e)
-            ∙ or-swap (usedInSome k i (st .scripts)) (occurs k i t) (usedInSteps k i (st .steps)))
+          ∙ or-swap (usedInSome k i (st .scripts)) (occurs k i t) (usedInSteps k i (st .steps)))
           (used-shown past d t here only k i (used st k i) (v .used-right k i f))
 
   pub stable-knows : Stable (known p n ∷ past) (record { terms = st .terms; scripts = set (st .scripts) p (knows s t); steps = st .steps })

@@ -10,7 +10,7 @@ use Rattle.std.specs.declared.option.Option.{Option}
 use Rattle.std.specs.declared.option.Option.the-variants.{None, Some}
 use Rattle.deduction.specs.Term.{Term, same-term, In}
 use Rattle.deduction.specs.Decide.{decided, sameTerm}
-use Rattle.rules.specs.State.{nth, with, placeFrom, placeOf}
+use Rattle.rules.specs.State.{nth, with, nameAt, placeFrom, placeOf}
 use Rattle.rules.proofs.Find.{some-none, same-term-is}
 
 pub some-is : {A : Type 0} {a b : A} → Some a ≡ Some b → a ≡ b
@@ -43,24 +43,28 @@ module _ {A : Type 0} where
   nth-right (y ∷ xs) ys d (suc n) e = nth-right xs ys d n (omega arith)
 
   -- a place of two lists put together
-  pub nth-either : (xs ys : List A) (n : ℕ) (x : A) → nth (xs ++ ys) n ≡ Some x → (nth xs n ≡ Some x) ⊎ ((d : ℕ) × (n ≡ d + length xs) × (nth ys d ≡ Some x))
+  pub nth-either : (xs ys : List A) (n : ℕ) (x : A) → nth (xs ++ ys) n ≡ Some x
+      → (nth xs n ≡ Some x) ⊎ ((d : ℕ) × (n ≡ d + length xs) × (nth ys d ≡ Some x))
   nth-either [] ys n x e = inr (n, omega arith, e)
   nth-either (y ∷ xs) ys zero x e = inl e
   nth-either (y ∷ xs) ys (suc n) x e = go (nth-either xs ys n x e)
     where
-      go : (nth xs n ≡ Some x) ⊎ ((d : ℕ) × (n ≡ d + length xs) × (nth ys d ≡ Some x)) → (nth xs n ≡ Some x) ⊎ ((d : ℕ) × (suc n ≡ d + suc (length xs)) × (nth ys d ≡ Some x))
+      go : (nth xs n ≡ Some x) ⊎ ((d : ℕ) × (n ≡ d + length xs) × (nth ys d ≡ Some x))
+          → (nth xs n ≡ Some x) ⊎ ((d : ℕ) × (suc n ≡ d + suc (length xs)) × (nth ys d ≡ Some x))
       go (inl h) = inl h
       go (inr w) = let w1 = w .1 in inr (w .0, omega arith, w .2)
 
   -- a place of a list with another element put at i
-  pub nth-set : (xs : List A) (i : ℕ) (y : A) (n : ℕ) (x : A) → nth (set xs i y) n ≡ Some x → ((n ≡ i) × (x ≡ y)) ⊎ ((n ≡ i → ⊥) × (nth xs n ≡ Some x))
+  pub nth-set : (xs : List A) (i : ℕ) (y : A) (n : ℕ) (x : A) → nth (set xs i y) n ≡ Some x
+      → ((n ≡ i) × (x ≡ y)) ⊎ ((n ≡ i → ⊥) × (nth xs n ≡ Some x))
   nth-set [] i y n x e = absurd (some-none None e refl)
   nth-set (z ∷ xs) zero y zero x e = inl (refl, sym (some-is e))
   nth-set (z ∷ xs) zero y (suc n) x e = inr ((λ q. omega arith), e)
   nth-set (z ∷ xs) (suc i) y zero x e = inr ((λ q. omega arith), e)
   nth-set (z ∷ xs) (suc i) y (suc n) x e = go (nth-set xs i y n x e)
     where
-      go : ((n ≡ i) × (x ≡ y)) ⊎ ((n ≡ i → ⊥) × (nth xs n ≡ Some x)) → ((suc n ≡ suc i) × (x ≡ y)) ⊎ ((suc n ≡ suc i → ⊥) × (nth xs n ≡ Some x))
+      go : ((n ≡ i) × (x ≡ y)) ⊎ ((n ≡ i → ⊥) × (nth xs n ≡ Some x))
+          → ((suc n ≡ suc i) × (x ≡ y)) ⊎ ((suc n ≡ suc i → ⊥) × (nth xs n ≡ Some x))
       go (inl w) = inl (ap suc (w .0), w .1)
       go (inr w) = inr ((λ q. w .0 (omega arith)), w .1)
 
@@ -81,7 +85,8 @@ module _ {A : Type 0} where
   nth-first (x ∷ xs) d l = refl
 
 -- both ways of an option
-pub with-both : {A B : Type 0} (o : Option A) (b : B) (f : A → B) (P : B → Type 0) → (o ≡ None → P b) → ((a : A) → o ≡ Some a → P (f a)) → P (with o b f)
+pub with-both : {A B : Type 0} (o : Option A) (b : B) (f : A → B) (P : B → Type 0) → (o ≡ None → P b) → ((a : A) → o ≡ Some a → P (f a))
+    → P (with o b f)
 with-both None b f P n s = n refl
 with-both (Some a) b f P n s = s a refl
 
@@ -99,7 +104,7 @@ place-from [] n t m e = absurd (some-none None e refl)
 place-from (u ∷ us) n t m e = go (place-from us (n + 1) t m) (sameTerm u t) refl e
   where
     go : (placeFrom (n + 1) us t ≡ Some m → (d : ℕ) × (m ≡ (n + 1) + d) × (nth us d ≡ Some t)) → (b : Bool) → sameTerm u t ≡ b
-      → cond b (Some n) (placeFrom (n + 1) us t) ≡ Some m → (d : ℕ) × (m ≡ n + d) × (nth (u ∷ us) d ≡ Some t)
+        → cond b (Some n) (placeFrom (n + 1) us t) ≡ Some m → (d : ℕ) × (m ≡ n + d) × (nth (u ∷ us) d ≡ Some t)
     go rest true q f = let g : n ≡ m = cc in (zero, omega arith, ap Some (same-is u t q))
     go rest false q f = let w = rest f in let w1 = w .1 in (suc (w .0), omega arith, w .2)
 
@@ -107,7 +112,8 @@ placed-from : (us : List Term) (n : ℕ) (t : Term) → In t us → placeFrom n 
 placed-from [] n t h e = h
 placed-from (u ∷ us) n t h e = go (placed-from us (n + 1) t) (sameTerm u t) refl h e
   where
-    go : (In t us → placeFrom (n + 1) us t ≡ None → ⊥) → (b : Bool) → sameTerm u t ≡ b → In t (u ∷ us) → cond b (Some n) (placeFrom (n + 1) us t) ≡ None → ⊥
+    go : (In t us → placeFrom (n + 1) us t ≡ None → ⊥) → (b : Bool) → sameTerm u t ≡ b → In t (u ∷ us)
+        → cond b (Some n) (placeFrom (n + 1) us t) ≡ None → ⊥
     go rest true q h f = some-none (Some n) refl f
     go rest false q (inr h) f = rest h f
     go rest false q (inl p) f =
@@ -121,3 +127,7 @@ place-is us t n e = let w = place-from us 0 t n e in let w1 = w .1 in let q : w 
 pub place-none : (us : List Term) (t : Term) → placeOf us t ≡ None → In t us → ⊥
 unfolding placeOf
 place-none us t e h = placed-from us 0 t h e
+
+-- the listener has no name
+pub name-above : (ts : List Term) (p : ℕ) (t : Term) → nameAt ts p ≡ Some t → p ≡ 0 → ⊥
+name-above ts p t e q = some-none None (sym (ap (nameAt ts) q) ∙ e) refl

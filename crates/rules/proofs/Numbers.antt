@@ -2,17 +2,21 @@
 use mathlib.Core.Path.{_≡_, refl, sym, ap, subst, _∙_}
 use mathlib.Core.List.{List, [], _∷_, _++_}
 use mathlib.Core.Logic.{_⊎_, inl, inr}
+use mathlib.Core.Bool.{false}
 use Prim.Native.Nat.{ℕ, zero, suc, _+_}
 use native.Mathlib.Omega.{arith}
 use lib.ListN.{length, length-append}
 use Rattle.std.specs.declared.option.Option.the-variants.{None, Some}
 use Rattle.deduction.specs.Term.{Kind, party, number, shared, public, table, function, Form, Term, name, built, mate, Formed, In}
 use Rattle.deduction.proofs.Members.{in-left, in-right, in-either}
+use Rattle.deduction.specs.Decide.{sameKind}
 use Rattle.rules.specs.State.{Told, named, nth, partyOf, partyNames, nameAt, newTerms}
 use Rattle.rules.specs.History.{History, Adds, Stands, opens, parties, Opens, NameOf}
 use Rattle.rules.specs.Grows.{Closed}
 use Rattle.rules.specs.Invariant.{Numbered}
+use Rattle.std.proofs.shelf.Tests.{both-ways}
 use Rattle.rules.proofs.Find.{some-none}
+use Rattle.rules.proofs.Used.{kind-decides}
 use Rattle.rules.proofs.Nth.{some-is, nth-in, in-nth, nth-below, nth-left, nth-right, nth-either}
 
 pub numbered-blank : Numbered [] []
@@ -80,7 +84,8 @@ party-names-append : (xs ys : List Term) → partyNames (xs ++ ys) ≡ partyName
 party-names-append [] ys = refl
 party-names-append (name k i ∷ xs) ys = go k (party-names-append xs ys)
   where
-    go : (j : Kind) → partyNames (xs ++ ys) ≡ partyNames xs ++ partyNames ys → partyOf j (name j i) (partyNames (xs ++ ys)) ≡ partyOf j (name j i) (partyNames xs) ++ partyNames ys
+    go : (j : Kind) → partyNames (xs ++ ys) ≡ partyNames xs ++ partyNames ys
+        → partyOf j (name j i) (partyNames (xs ++ ys)) ≡ partyOf j (name j i) (partyNames xs) ++ partyNames ys
     go party e = ap (λ z. name party i ∷ z) e
     go number e = e
     go shared e = e
@@ -113,7 +118,12 @@ module _ (past : History) (ts : List Term) (v : Numbered past ts) (d : Told) (ne
       go (inr i) = w .well t i
 
   is-closed : Closed (λ t. In t (ts ++ new))
-  is-closed = record { firsts = λ f a b h. one f a b (in-either (built f a b) ts new h); seconds = λ f a b h. two f a b (in-either (built f a b) ts new h); keys = λ k h. key k (in-either (mate k) ts new h) }
+  is-closed =
+      record {
+        firsts = λ f a b h. one f a b (in-either (built f a b) ts new h);
+        seconds = λ f a b h. two f a b (in-either (built f a b) ts new h);
+        keys = λ k h. key k (in-either (mate k) ts new h);
+      }
     where
       one : (f : Form) (a b : Term) → In (built f a b) ts ⊎ In (built f a b) new → In a (ts ++ new)
       one f a b (inl i) = in-left a ts new (v .closed .firsts f a b i)
@@ -137,7 +147,8 @@ module _ (past : History) (ts : List Term) (v : Numbered past ts) (d : Told) (ne
   apart-now : (n m : ℕ) (t : Term) → nth (ts ++ new) n ≡ Some t → nth (ts ++ new) m ≡ Some t → n ≡ m
   apart-now n m t e f = go (both n t e) (both m t f)
     where
-      go : (nth ts n ≡ Some t) ⊎ ((x : ℕ) × (n ≡ x + length ts) × (nth new x ≡ Some t)) → (nth ts m ≡ Some t) ⊎ ((x : ℕ) × (m ≡ x + length ts) × (nth new x ≡ Some t)) → n ≡ m
+      go : (nth ts n ≡ Some t) ⊎ ((x : ℕ) × (n ≡ x + length ts) × (nth new x ≡ Some t))
+          → (nth ts m ≡ Some t) ⊎ ((x : ℕ) × (m ≡ x + length ts) × (nth new x ≡ Some t)) → n ≡ m
       go (inl a) (inl b) = v .apart n m t a b
       go (inl a) (inr y) = absurd (w .unseen t (nth-in new (y .0) t (y .2)) (nth-in ts n t a))
       go (inr x) (inl b) = absurd (w .unseen t (nth-in new (x .0) t (x .2)) (nth-in ts m t b))
@@ -166,7 +177,8 @@ module _ (past : History) (ts : List Term) (v : Numbered past ts) (d : Told) (ne
   names-from-now zero t e = absurd (some-none None e refl)
   names-from-now (suc p) t e = go (nth-either (partyNames ts) (partyNames new) p t (ap (λ z. nth z p) (sym (party-names-append ts new)) ∙ e))
     where
-      go : (nth (partyNames ts) p ≡ Some t) ⊎ ((x : ℕ) × (p ≡ x + length (partyNames ts)) × (nth (partyNames new) x ≡ Some t)) → NameOf (d ∷ past) (suc p) t
+      go : (nth (partyNames ts) p ≡ Some t) ⊎ ((x : ℕ) × (p ≡ x + length (partyNames ts)) × (nth (partyNames new) x ≡ Some t))
+          → NameOf (d ∷ past) (suc p) t
       go (inl h) = inl (v .names-from (suc p) t h)
       go (inr x) =
           let g = v .agents in
@@ -188,31 +200,47 @@ module _ (past : History) (ts : List Term) (v : Numbered past ts) (d : Told) (ne
         names-from = names-from-now;
         agents =
             (let a = v .agents in let b = w .counted in let e = ap length (party-names-append ts new) in
-             let l = length-append (partyNames ts) (partyNames new) in omega arith);
+            let l = length-append (partyNames ts) (partyNames new) in omega arith);
       }
 
 -- NAME
 module _ (past : History) (ts : List Term) (v : Numbered past ts) where
   unnamed : (k : Kind) → In (name k (length ts)) ts → ⊥
-  unnamed k h = let x = in-nth ts (name k (length ts)) h in let a = v .own (x .0) k (length ts) (x .1) in let b = nth-below ts (x .0) (name k (length ts)) (x .1) in omega arith
+  unnamed k h =
+      let x = in-nth ts (name k (length ts)) h in
+      let a = v .own (x .0) k (length ts) (x .1) in
+      let b = nth-below ts (x .0) (name k (length ts)) (x .1) in
+      omega arith
+
+  -- two kinds
+  kinds-apart : (a b : Kind) → sameKind a b ≡ false → a ≡ b → ⊥
+  kinds-apart a b f e = both-ways (sameKind a b) f (kind-decides a b .1 e)
 
   -- the name alone
   module _ (k : Kind) (plain : k ≡ public → ⊥) (one : opens (named k (length ts)) ≡ length (partyNames (name k (length ts) ∷ [])))
-      (named-to : (p : ℕ) (t : Term) → Opens (parties past) (named k (length ts)) p t → (x : ℕ) × (p ≡ suc (x + parties past)) × (nth (partyNames (name k (length ts) ∷ [])) x ≡ Some t))
-      (named-from : (x : ℕ) (t : Term) → nth (partyNames (name k (length ts) ∷ [])) x ≡ Some t → Opens (parties past) (named k (length ts)) (suc (x + parties past)) t) where
+      (named-to : (p : ℕ) (t : Term) → Opens (parties past) (named k (length ts)) p t
+      → (x : ℕ) × (p ≡ suc (x + parties past)) × (nth (partyNames (name k (length ts) ∷ [])) x ≡ Some t))
+      (named-from : (x : ℕ) (t : Term) → nth (partyNames (name k (length ts) ∷ [])) x ≡ Some t
+      → Opens (parties past) (named k (length ts)) (suc (x + parties past)) t) where
     abbrev new : List Term
     new = name k (length ts) ∷ []
 
     name-news : News past ts (named k (length ts)) new
     name-news =
         record {
-          adds = adds; added = added; well = well;
+          adds = adds;
+          added = added;
+          well = well;
           first-in = λ f a b h. absurd (unbuilt f a b h);
           second-in = λ f a b h. absurd (unbuilt f a b h);
           key-in = λ e h. absurd (unmated e h);
-          owned = owned; unseen = unseen; once = once;
+          owned = owned;
+          unseen = unseen;
+          once = once;
           mates-in = λ i h. absurd (unpublic i h);
-          counted = one; opened-to = named-to; opened-from = named-from;
+          counted = one;
+          opened-to = named-to;
+          opened-from = named-from;
         }
       where
         adds : (x : ℕ) (t : Term) → nth new x ≡ Some t → Adds (Stands past) (named k (length ts)) (x + length ts) t
@@ -256,10 +284,16 @@ module _ (past : History) (ts : List Term) (v : Numbered past ts) where
   public-news : News past ts (named public (length ts)) (newTerms public (length ts))
   public-news =
       record {
-        adds = adds; added = added; well = well;
+        adds = adds;
+        added = added;
+        well = well;
         first-in = λ f a b h. absurd (unbuilt f a b h);
         second-in = λ f a b h. absurd (unbuilt f a b h);
-        key-in = key-in; owned = owned; unseen = unseen; once = once; mates-in = mates-in;
+        key-in = key-in;
+        owned = owned;
+        unseen = unseen;
+        once = once;
+        mates-in = mates-in;
         counted = refl;
         opened-to = λ p t o. let o0 = o .0 in let z : _≡_ {A = ℕ} 0 1 = cc in absurd (omega arith);
         opened-from = λ x t e. absurd (some-none None e refl);
@@ -273,7 +307,8 @@ module _ (past : History) (ts : List Term) (v : Numbered past ts) where
       adds (suc zero) t e = inr (refl, omega arith, sym (some-is e))
       adds (suc (suc x)) t e = absurd (some-none None e refl)
 
-      added : (n : ℕ) (t : Term) → Adds (Stands past) (named public (length ts)) n t → (x : ℕ) × (n ≡ x + length ts) × (nth (newTerms public (length ts)) x ≡ Some t)
+      added : (n : ℕ) (t : Term) → Adds (Stands past) (named public (length ts)) n t
+          → (x : ℕ) × (n ≡ x + length ts) × (nth (newTerms public (length ts)) x ≡ Some t)
       added n t (inl a) = let a0 = a .0 in (zero, omega arith, ap Some (sym (a .1)))
       added n t (inr a) = let a1 = a .1 in (suc zero, omega arith, ap Some (sym (a .2)))
 
@@ -319,21 +354,26 @@ module _ (past : History) (ts : List Term) (v : Numbered past ts) where
       mates-in i (inr (inr h)) = absurd h
 
   -- a name that is no party's opens no agent
-  closed-to : (k : Kind) → (k ≡ party → ⊥) → (p : ℕ) (t : Term) → Opens (parties past) (named k (length ts)) p t → (x : ℕ) × (p ≡ suc (x + parties past)) × (nth [] x ≡ Some t)
-  closed-to k n p t o = absurd (n (o .0))
+  other-news : (k : Kind) → sameKind k public ≡ false → sameKind k party ≡ false → opens (named k (length ts)) ≡ 0
+      → partyNames (name k (length ts) ∷ []) ≡ []
+      → News past ts (named k (length ts)) (name k (length ts) ∷ [])
+  other-news k p q no-agent nameless =
+      name-news k (kinds-apart k public p) (no-agent ∙ ap length (sym nameless)) (λ m t o. absurd (kinds-apart k party q (o .0)))
+      (λ x t e. absurd (some-none None (sym (ap (λ z. nth z x) nameless) ∙ e) refl))
 
   pub named-numbered : (k : Kind) → Numbered (named k (length ts) ∷ past) (ts ++ newTerms k (length ts))
   named-numbered k = numbered-news past ts v (named k (length ts)) (newTerms k (length ts)) (go k)
     where
+      from-party : (x : ℕ) (t : Term) → nth (name party (length ts) ∷ []) x ≡ Some t
+          → Opens (parties past) (named party (length ts)) (suc (x + parties past)) t
+      from-party zero t e = (refl, omega arith, sym (some-is e))
+      from-party (suc x) t e = absurd (some-none None e refl)
+
       go : (j : Kind) → News past ts (named j (length ts)) (newTerms j (length ts))
       go party =
-          name-news party (λ e. let z : _≡_ {A = ℕ} 0 1 = cc in omega arith) refl (λ p t o. let o1 = o .1 in (zero, omega arith, ap Some (sym (o .2)))) from-party
-        where
-          from-party : (x : ℕ) (t : Term) → nth (name party (length ts) ∷ []) x ≡ Some t → Opens (parties past) (named party (length ts)) (suc (x + parties past)) t
-          from-party zero t e = (refl, omega arith, sym (some-is e))
-          from-party (suc x) t e = absurd (some-none None e refl)
-      go number = name-news number (λ e. let z : _≡_ {A = ℕ} 0 1 = cc in omega arith) refl (closed-to number (λ e. let z : _≡_ {A = ℕ} 0 1 = cc in omega arith)) (λ x t e. absurd (some-none None e refl))
-      go shared = name-news shared (λ e. let z : _≡_ {A = ℕ} 0 1 = cc in omega arith) refl (closed-to shared (λ e. let z : _≡_ {A = ℕ} 0 1 = cc in omega arith)) (λ x t e. absurd (some-none None e refl))
+          name-news party (kinds-apart party public refl) refl (λ p t o. let o1 = o .1 in (zero, omega arith, ap Some (sym (o .2)))) from-party
+      go number = other-news number refl refl refl refl
+      go shared = other-news shared refl refl refl refl
       go public = public-news
-      go table = name-news table (λ e. let z : _≡_ {A = ℕ} 0 1 = cc in omega arith) refl (closed-to table (λ e. let z : _≡_ {A = ℕ} 0 1 = cc in omega arith)) (λ x t e. absurd (some-none None e refl))
-      go function = name-news function (λ e. let z : _≡_ {A = ℕ} 0 1 = cc in omega arith) refl (closed-to function (λ e. let z : _≡_ {A = ℕ} 0 1 = cc in omega arith)) (λ x t e. absurd (some-none None e refl))
+      go table = other-news table refl refl refl refl
+      go function = other-news function refl refl refl refl

@@ -34,6 +34,20 @@ parts-child c p (built f a b) x (inr h) = go (parts-child c p a x) (parts-child 
 parts-child c p (mate k) x (inl e) = inr (subst (λ u. In u (parts k)) (subst (Child c) (sym e) x) (parts-self k))
 parts-child c p (mate k) x (inr h) = inr (parts-child c p k x h)
 
+-- the parts of a term of a closed set are in it
+pub parts-closed : (P : Term → Type 0) → Closed P → (t : Term) → P t → (u : Term) → In u (parts t) → P u
+parts-closed P c (name k i) p u (inl e) = subst P e p
+parts-closed P c (name k i) p u (inr h) = absurd h
+parts-closed P c (built f a b) p u (inl e) = subst P e p
+parts-closed P c (built f a b) p u (inr h) =
+    go (parts-closed P c a (c .firsts f a b p) u) (parts-closed P c b (c .seconds f a b p) u) (in-either u (parts a) (parts b) h)
+  where
+    go : (In u (parts a) → P u) → (In u (parts b) → P u) → In u (parts a) ⊎ In u (parts b) → P u
+    go l r (inl i) = l i
+    go l r (inr i) = r i
+parts-closed P c (mate k) p u (inl e) = subst P e p
+parts-closed P c (mate k) p u (inr h) = parts-closed P c k (c .keys k p) u h
+
 all-child : (c p : Term) (ts : List Term) → Child c p → In p (allParts ts) → In c (allParts ts)
 all-child c p [] x h = h
 all-child c p (t ∷ ts) x h = go (all-child c p ts x) (in-either p (parts t) (allParts ts) h)

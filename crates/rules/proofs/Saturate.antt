@@ -56,13 +56,15 @@ module _ (P : Term → Type 0) (c : Closed P) (G : Op → Term → Type 0) (s : 
   Right t (Some s1) = Took P G s s1
 
   takes : (n : ℕ) (a b : Term) → Holds s n (built pair a b) → P (built pair a b) → (x y : Bool) → composes s a ≡ x → composes s b ≡ y
-    → Right (built pair a b) (cond x (cond y None (Some (s then line (RIGHT n) (Some b)))) (Some (s then line (LEFT n) (Some a))))
+      → Right (built pair a b) (cond x (cond y None (Some (s then line (RIGHT n) (Some b)))) (Some (s then line (LEFT n) (Some a))))
   takes n a b h p true true ea eb = (composes-true s a ea, composes-true s b eb)
   takes n a b h p true false ea eb =
       let un = composes-false s b eb in
       record {
         grows = grows-one (Fits P G) (bringing (takes-right h) (λ i. un (held-composable (among (held s)) b i)) (c .seconds pair a b p));
-        term = b; within = c .seconds pair a b p; unmade = un;
+        term = b;
+        within = c .seconds pair a b p;
+        unmade = un;
         made = held-last s (RIGHT n) b;
         due = λ y. un (y .rights a b (holds-held s n (built pair a b) h));
       }
@@ -70,28 +72,32 @@ module _ (P : Term → Type 0) (c : Closed P) (G : Op → Term → Type 0) (s : 
       let un = composes-false s a ea in
       record {
         grows = grows-one (Fits P G) (bringing (takes-left h) (λ i. un (held-composable (among (held s)) a i)) (c .firsts pair a b p));
-        term = a; within = c .firsts pair a b p; unmade = un;
+        term = a;
+        within = c .firsts pair a b p;
+        unmade = un;
         made = held-last s (LEFT n) a;
         due = λ y. un (y .lefts a b (holds-held s n (built pair a b) h));
       }
 
   opens-right : (n : ℕ) (t k : Term) → Holds s n (built sealed t k) → P (built sealed t k) → (Composable (held s) t → ⊥)
-    → (o : Option Composed) → compose s (opener k) ≡ o → Right (built sealed t k) (opened n t o)
+      → (o : Option Composed) → compose s (opener k) ≡ o → Right (built sealed t k) (opened n t o)
   opens-right n t k h p un None e = λ m. absurd (composed-none s (opener k) e m)
   opens-right n t k h p un (Some o) e =
       let m = composed-makes P s (opener k) (opener-within P c k (c .seconds sealed t k p)) o e in
       record {
         grows = adds (builds-fit P G (m .grows))
-          (bringing (opens (grows-holds (Builds P) (m .grows) n (built sealed t k) h) (m .holds))
+            (bringing (opens (grows-holds (Builds P) (m .grows) n (built sealed t k) h) (m .holds))
             (λ i. un (builds-composable P (m .grows) t (held-composable (among (held (o .script))) t i))) (c .firsts sealed t k p));
-        term = t; within = c .firsts sealed t k p; unmade = un;
+        term = t;
+        within = c .firsts sealed t k p;
+        unmade = un;
         made = held-last (o .script) (OPEN n (o .slot)) t;
         due = λ y. un (y .contents t k (holds-held s n (built sealed t k) h)
-          (builds-composable P (m .grows) (opener k) (held-composable (among (held (o .script))) (opener k) (holds-held (o .script) (o .slot) (opener k) (m .holds)))));
+            (builds-composable P (m .grows) (opener k) (held-composable (among (held (o .script))) (opener k) (holds-held (o .script) (o .slot) (opener k) (m .holds)))));
       }
 
   seals : (n : ℕ) (t k : Term) → Holds s n (built sealed t k) → P (built sealed t k) → (x : Bool) → composes s t ≡ x
-    → Right (built sealed t k) (cond x None (opened n t (compose s (opener k))))
+      → Right (built sealed t k) (cond x None (opened n t (compose s (opener k))))
   seals n t k h p true e = λ o. composes-true s t e
   seals n t k h p false e = opens-right n t k h p (composes-false s t e) (compose s (opener k)) refl
 
@@ -108,7 +114,8 @@ module _ (P : Term → Type 0) (c : Closed P) (G : Op → Term → Type 0) (s : 
     FromRight ts None = (t : Term) → In t ts → Settled s t
     FromRight ts (Some s1) = Took P G s s1
 
-    first-right : (t : Term) (ts : List Term) (o : Option Script) → Right t o → (r : Option Script) → FromRight ts r → FromRight (t ∷ ts) (firstOf o r)
+    first-right : (t : Term) (ts : List Term) (o : Option Script) → Right t o → (r : Option Script) → FromRight ts r
+        → FromRight (t ∷ ts) (firstOf o r)
     first-right t ts (Some s1) w r v = w
     first-right t ts None w (Some s1) v = v
     first-right t ts None w None v = λ u i. go u i
@@ -122,7 +129,8 @@ module _ (P : Term → Type 0) (c : Closed P) (G : Op → Term → Type 0) (s : 
     take-from (l ∷ rest) n at =
         go (take-from rest (n + 1) (λ d t h. let e : n + suc d ≡ (n + 1) + d = omega arith in subst (λ m. Holds s m t) e (at (suc d) t h))) (l .holds) refl
       where
-        go : FromRight (held rest) (takeFrom s (n + 1) rest) → (o : Option Term) → l .holds ≡ o → FromRight (holding o (held rest)) (firstOf (takeHeld s n o) (takeFrom s (n + 1) rest))
+        go : FromRight (held rest) (takeFrom s (n + 1) rest) → (o : Option Term) → l .holds ≡ o
+            → FromRight (holding o (held rest)) (firstOf (takeHeld s n o) (takeFrom s (n + 1) rest))
         go v None e = v
         go v (Some t) e =
             let q : n + zero ≡ n = omega arith in
@@ -142,8 +150,12 @@ module _ (P : Term → Type 0) (c : Closed P) (G : Op → Term → Type 0) (s : 
 pub any-closed : Closed Any
 any-closed = record { firsts = λ f a b p. tt; seconds = λ f a b p. tt; keys = λ k p. tt }
 
+-- no instruction brings in a term, or each may
 abbrev pub Nothing : Op → Term → Type 0
 Nothing op t = ⊥
+
+abbrev pub Free : Op → Term → Type 0
+Free op t = Unit {0}
 
 -- no step is left exactly if the held terms are saturated
 pub taken-saturated : (s : Script) → takeApart s ≡ None ↔ Saturated (held s)
@@ -219,7 +231,7 @@ module _ (L : List Term) (c : Closed (λ t. In t L)) where
   enough (suc n) s all l = go (enough n) (takeApart s) refl
     where
       go : ((s1 : Script) → ((t : Term) → In t (held s1) → In t L) → lacking s1 L ≤ n → Saturates s1 (steps n s1))
-        → (o : Option Script) → takeApart s ≡ o → Saturates s (goOn (steps n) s o)
+          → (o : Option Script) → takeApart s ≡ o → Saturates s (goOn (steps n) s o)
       go rest None e = done e
       go rest (Some s1) e =
           let h = step s all s1 e in
@@ -248,10 +260,12 @@ saturates-one {s} {x} {y} (more {s1 = a} e v) (more {s1 = b} f w) =
     let q : b ≡ a = cc in saturates-one v (subst (λ z. Saturates z y) q w)
 
 -- saturating writes lines that fit
-pub saturates-grows : (P : Term → Type 0) (c : Closed P) (G : Op → Term → Type 0) {s s′ : Script} → ((t : Term) → In t (held s) → P t) → Saturates s s′ → Grows (Fits P G) s s′
+pub saturates-grows : (P : Term → Type 0) (c : Closed P) (G : Op → Term → Type 0) {s s′ : Script} → ((t : Term) → In t (held s) → P t)
+    → Saturates s s′ → Grows (Fits P G) s s′
 saturates-grows P c G all (done e) = stays
 saturates-grows P c G {s} all (more {s1 = s1} e w) =
     let g = took P c G s all s1 e .grows in grows-join (Fits P G) g (saturates-grows P c G (grows-within P G g all) w)
 
-pub saturate-grows : (P : Term → Type 0) (c : Closed P) (G : Op → Term → Type 0) (s : Script) → ((t : Term) → In t (held s) → P t) → Grows (Fits P G) s (saturate s)
+pub saturate-grows : (P : Term → Type 0) (c : Closed P) (G : Op → Term → Type 0) (s : Script) → ((t : Term) → In t (held s) → P t)
+    → Grows (Fits P G) s (saturate s)
 saturate-grows P c G s all = saturates-grows P c G all (saturate-saturates s)

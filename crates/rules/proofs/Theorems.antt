@@ -16,9 +16,11 @@ use Rattle.rules.specs.Walk.{walk}
 use Rattle.rules.specs.Effects.{knows, freshens, sends, received, overheard}
 use Rattle.rules.specs.State.{perform}
 use Rattle.rules.specs.Grows.{Grows, adds, Builds, gives, Fits, sending, Closed, Gains, FreshTerm, IsName}
-use Rattle.rules.specs.Theorems.{FindingFinds, ComposingDecides, ComposingMakes, MissingMisses, SaturationEndsSaturated, WalkingGains, KnowingGains, ReceivingGains, OverhearingGains, SendingGains, ScriptsRepresent, LinesFit, NoTermTwice, EveryCallHasOneOutcome}
+use Rattle.rules.specs.Theorems.{FindingFinds, ComposingDecides, ComposingMakes, MissingMisses, SaturationEndsSaturated, WalkingGains, KnowingGains}
+use Rattle.rules.specs.Theorems.{ReceivingGains, OverhearingGains, SendingGains, ScriptsRepresent, LinesFit, NoTermTwice, EveryCallHasOneOutcome}
 use Rattle.rules.proofs.Find.{some-none, find-holds, find-lowest, held-find, unfound-unheld, find-append, holds-below, holds-held, held-append}
-use Rattle.rules.proofs.Grows.{grows-join, grows-begins, grows-holds, grows-held, grows-composable, grows-apart, grows-derived, builds-composable, builds-fit, closed-within}
+use Rattle.rules.proofs.Grows.{grows-join, grows-begins, grows-holds, grows-held, grows-composable, grows-apart, grows-derived, builds-composable}
+use Rattle.rules.proofs.Grows.{builds-fit, closed-within}
 use Rattle.rules.proofs.Compose.{composed-makes, Any, any-within, composes-decides, MissingRight, missing-right}
 use Rattle.rules.proofs.Saturate.{saturate-saturates, saturates-one, taken-saturated, saturate-ends, saturate-grows}
 use Rattle.rules.proofs.Walk.{walk-right}
@@ -71,13 +73,15 @@ formed-closed : Closed Formed
 formed-closed = record { firsts = λ f a b w. w .0; seconds = λ f a b w. w .1; keys = λ k w. w .0 }
 
 -- what a script gains by lines that fit
-gained : (s : Script) (New : Term → Type 0) (s′ : Script) → Grows (Fits Formed (λ op t. New t)) s s′ → ((t : Term) → New t → Composable (held s′) t) → Gains s New s′
+gained : (s : Script) (New : Term → Type 0) (s′ : Script) → Grows (Fits Formed (λ op t. New t)) s s′ → ((t : Term) → New t → Composable (held s′) t)
+    → Gains s New s′
 gained s New s′ g made =
     record {
       begins = grows-begins (Fits Formed (λ op t. New t)) g;
       covers = made;
-      sound = grows-derived Formed (λ op t. New t) (λ t f. f) (λ u. In u (held s) ⊎ New u) (λ op t x. derives-given (λ u. In u (held s) ⊎ New u) t (inr x)) g
-        (λ t h. derives-given (λ u. In u (held s) ⊎ New u) t (inl h));
+      sound =
+          grows-derived Formed (λ op t. New t) (λ t f. f) (λ u. In u (held s) ⊎ New u) (λ op t x. derives-given (λ u. In u (held s) ⊎ New u) t (inr x)) g
+          (λ t h. derives-given (λ u. In u (held s) ⊎ New u) t (inl h));
       apart = grows-apart Formed (λ op t. New t) g;
     }
 
@@ -111,10 +115,12 @@ knowing-gains s t f y =
 
 pub receiving-gains : ReceivingGains
 receiving-gains s who m f =
-    let w = received-right Formed formed-closed (λ op u. In u (who ∷ m ∷ [])) s who m (λ u h. f u (inr (inr h))) (f who (inl refl)) (f m (inr (inl refl))) (inl refl) (inr (inl refl)) in
+    let w = received-right Formed formed-closed (λ op u. In u (who ∷ m ∷ [])) s who m (λ u h. f u (inr (inr h)))
+    (f who (inl refl)) (f m (inr (inl refl))) (inl refl) (inr (inl refl)) in
     (gained s (among (who ∷ m ∷ [])) (received s who m) (w .grows) (λ u h. one u h (w .who-made) (w .message-made)), w .saturated)
   where
-    one : (u : Term) → In u (who ∷ m ∷ []) → Composable (held (received s who m)) who → Composable (held (received s who m)) m → Composable (held (received s who m)) u
+    one : (u : Term) → In u (who ∷ m ∷ []) → Composable (held (received s who m)) who → Composable (held (received s who m)) m
+        → Composable (held (received s who m)) u
     one u (inl e) a b = subst (Composable (held (received s who m))) e a
     one u (inr (inl e)) a b = subst (Composable (held (received s who m))) e b
     one u (inr (inr h)) a b = absurd h
@@ -122,11 +128,11 @@ receiving-gains s who m f =
 pub overhearing-gains : OverhearingGains
 overhearing-gains s from to m f =
     let w = overheard-right Formed formed-closed (λ op u. In u (from ∷ to ∷ m ∷ [])) s from to m (λ u h. f u (inr (inr (inr h))))
-              (f from (inl refl)) (f to (inr (inl refl))) (f m (inr (inr (inl refl)))) (inl refl) (inr (inl refl)) (inr (inr (inl refl))) in
+    (f from (inl refl)) (f to (inr (inl refl))) (f m (inr (inr (inl refl)))) (inl refl) (inr (inl refl)) (inr (inr (inl refl))) in
     (gained s (among (from ∷ to ∷ m ∷ [])) (overheard s from to m) (w .grows) (λ u h. one u h (w .from-made) (w .to-made) (w .message-made)), w .saturated)
   where
     one : (u : Term) → In u (from ∷ to ∷ m ∷ []) → Composable (held (overheard s from to m)) from → Composable (held (overheard s from to m)) to
-      → Composable (held (overheard s from to m)) m → Composable (held (overheard s from to m)) u
+        → Composable (held (overheard s from to m)) m → Composable (held (overheard s from to m)) u
     one u (inl e) a b c = subst (Composable (held (overheard s from to m))) e a
     one u (inr (inl e)) a b c = subst (Composable (held (overheard s from to m))) e b
     one u (inr (inr (inl e))) a b c = subst (Composable (held (overheard s from to m))) e c
@@ -157,12 +163,14 @@ sending-gains s fresh m address who s′ e at are once unheld f = go (compose (f
         let z = grows-join F g h in
         let l = grows-holds F z address who at in
         let y : c .script then line (SEND (c .slot) address) None ≡ s′ = cc in
-        subst (λ r. Gains s (FreshTerm fresh) r × Composable (held r) m) y
-        (gained s (FreshTerm fresh) (c .script then line (SEND (c .slot) address) None) (adds z (sending (k .holds) l))
-          (λ u w. held-composable (among (held (c .script then line (SEND (c .slot) address) None))) u
-            (held-append (c .script) (line (SEND (c .slot) address) None ∷ []) u (grows-held F h u (freshens-made Formed (λ op t. FreshTerm fresh t) fresh s ready unheld u w)))),
-         held-composable (among (held (c .script then line (SEND (c .slot) address) None))) m
-           (held-append (c .script) (line (SEND (c .slot) address) None ∷ []) m (holds-held (c .script) (c .slot) m (k .holds))))
+        subst (λ r. Gains s (FreshTerm fresh) r × Composable (held r) m) y (
+          gained s (FreshTerm fresh) (c .script then line (SEND (c .slot) address) None) (adds z (sending (k .holds) l))
+              (λ u w. held-composable (among (held (c .script then line (SEND (c .slot) address) None))) u
+              (held-append (c .script) (line (SEND (c .slot) address) None ∷ []) u
+              (grows-held F h u (freshens-made Formed (λ op t. FreshTerm fresh t) fresh s ready unheld u w)))),
+          held-composable (among (held (c .script then line (SEND (c .slot) address) None))) m
+              (held-append (c .script) (line (SEND (c .slot) address) None ∷ []) m (holds-held (c .script) (c .slot) m (k .holds))),
+        )
 
 pub scripts-represent : ScriptsRepresent
 scripts-represent past st w p s e = came-stable past st w .agent p s e .represents

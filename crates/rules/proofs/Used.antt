@@ -12,14 +12,17 @@ use Rattle.std.specs.Orderings.{Decides}
 use Rattle.std.specs.declared.option.Option.the-variants.{None, Some}
 use Rattle.std.proofs.shelf.Ways.{decides-and, decides-or, decides-eqb}
 use Rattle.deduction.specs.Term.{Kind, party, public, Kind-discrete, Form, pair, sealed, digest, entry, Term, name, built, mate, Occurs}
+use Rattle.rules.specs.Script.{Op, GIVEN, FRESH, FROM, TO, RECV, MATE, LEFT, RIGHT, JOIN, SEAL, DIGEST, ENTRY, OPEN, SAME, SEND, Line, Script, line}
 use Rattle.deduction.specs.Decide.{decided, sameKind}
-use Rattle.rules.specs.Script.{Op, GIVEN, FRESH, FROM, TO, RECV, MATE, LEFT, RIGHT, JOIN, SEAL, DIGEST, ENTRY, OPEN, SAME, SEND, Line, Script, line, _then_, builder}
+use Rattle.rules.specs.Script.{_then_, builder}
 use Rattle.rules.specs.Compose.{composes}
 use Rattle.rules.specs.Saturate.{saturate}
 use Rattle.rules.specs.Effects.{knows}
-use Rattle.rules.specs.State.{Step, Told, named, formed, mated, known, stepped, asked, refused, nth, occurs, occursGiven, usedIn, usedInSome, usedInSteps}
+use Rattle.rules.specs.State.{Step, Told, named, formed, mated, known, stepped, asked, refused, nth, occurs, occursGiven, usedIn}
+use Rattle.rules.specs.State.{usedInSome, usedInSteps}
 use Rattle.rules.specs.History.{History, Stands, parties, Opens, NameOf, Used, FreshIn, Gives, Given}
-use Rattle.rules.specs.Grows.{Grows, Brings, gives, mates, takes-left, takes-right, opens, Fits, building, bringing, repeating, comparing, sending, Closed}
+use Rattle.rules.specs.Grows.{Grows, Brings, gives, mates, takes-left, takes-right, opens, Fits, building, bringing, repeating, comparing, sending}
+use Rattle.rules.specs.Grows.{Closed}
 use Rattle.rules.proofs.Find.{some-none}
 use Rattle.rules.proofs.Nth.{some-is}
 use Rattle.rules.proofs.Grows.{grows-keeps}
@@ -166,7 +169,8 @@ module _ (k : Kind) (i : ℕ) where
 
   used-then : (s : Script) (l : Line) → usedIn k i (s then l) ≡ (usedIn k i s || occursGiven k i (l .op))
   used-then [] l = or-false (occursGiven k i (l .op))
-  used-then (x ∷ s) l = ap (λ z. occursGiven k i (x .op) || z) (used-then s l) ∙ sym (or-assoc (occursGiven k i (x .op)) (usedIn k i s) (occursGiven k i (l .op)))
+  used-then (x ∷ s) l =
+      ap (λ z. occursGiven k i (x .op) || z) (used-then s l) ∙ sym (or-assoc (occursGiven k i (x .op)) (usedIn k i s) (occursGiven k i (l .op)))
 
   builder-unused : (f : Form) (n m : ℕ) → occursGiven k i (builder f n m) ≡ false
   builder-unused pair n m = refl
@@ -198,7 +202,7 @@ module _ (k : Kind) (i : ℕ) where
 
   -- initial knowledge that writes something uses its names
   pub knows-used : (s : Script) (t : Term)
-    → ((composes s t ≡ true) × (usedIn k i (knows s t) ≡ usedIn k i s)) ⊎ (usedIn k i (knows s t) ≡ (usedIn k i s || occurs k i t))
+      → ((composes s t ≡ true) × (usedIn k i (knows s t) ≡ usedIn k i s)) ⊎ (usedIn k i (knows s t) ≡ (usedIn k i s || occurs k i t))
   knows-used s t = go (composes s t) refl
     where
       after : usedIn k i (saturate (s then line (GIVEN t) (Some t))) ≡ (usedIn k i s || occurs k i t)
@@ -207,20 +211,22 @@ module _ (k : Kind) (i : ℕ) where
           ∙ used-then s (line (GIVEN t) (Some t))
 
       go : (x : Bool) → composes s t ≡ x
-        → ((x ≡ true) × (usedIn k i (cond x s (saturate (s then line (GIVEN t) (Some t)))) ≡ usedIn k i s))
+          → ((x ≡ true) × (usedIn k i (cond x s (saturate (s then line (GIVEN t) (Some t)))) ≡ usedIn k i s))
           ⊎ (usedIn k i (cond x s (saturate (s then line (GIVEN t) (Some t)))) ≡ (usedIn k i s || occurs k i t))
       go true e = inl (refl, refl)
       go false e = inr after
 
   -- one script of several is replaced
-  pub used-set : (ss : List Script) (p : ℕ) (s s1 : Script) (x : Bool) → nth ss p ≡ Some s → usedIn k i s1 ≡ (usedIn k i s || x) → usedInSome k i (set ss p s1) ≡ (usedInSome k i ss || x)
+  pub used-set : (ss : List Script) (p : ℕ) (s s1 : Script) (x : Bool) → nth ss p ≡ Some s → usedIn k i s1 ≡ (usedIn k i s || x)
+      → usedInSome k i (set ss p s1) ≡ (usedInSome k i ss || x)
   used-set [] p s s1 x e q = absurd (some-none None e refl)
   used-set (z ∷ ss) zero s s1 x e q =
       ap (λ y. y || usedInSome k i ss) (q ∙ ap (λ y. usedIn k i y || x) (sym (some-is e))) ∙ or-swap (usedIn k i z) x (usedInSome k i ss)
   used-set (z ∷ ss) (suc p) s s1 x e q =
       ap (λ y. usedIn k i z || y) (used-set ss p s s1 x e q) ∙ sym (or-assoc (usedIn k i z) (usedInSome k i ss) x)
 
-  pub used-set-same : (ss : List Script) (p : ℕ) (s s1 : Script) → nth ss p ≡ Some s → usedIn k i s1 ≡ usedIn k i s → usedInSome k i (set ss p s1) ≡ usedInSome k i ss
+  pub used-set-same : (ss : List Script) (p : ℕ) (s s1 : Script) → nth ss p ≡ Some s → usedIn k i s1 ≡ usedIn k i s
+      → usedInSome k i (set ss p s1) ≡ usedInSome k i ss
   used-set-same ss p s s1 e q = used-set ss p s s1 false e (q ∙ sym (or-false (usedIn k i s))) ∙ or-false (usedInSome k i ss)
 
   pub used-more : (ss : List Script) (s : Script) → usedInSome k i (ss ++ (s ∷ [])) ≡ (usedInSome k i ss || usedIn k i s)
@@ -229,5 +235,5 @@ module _ (k : Kind) (i : ℕ) where
 
   pub used-steps-more : (ss : List Step) (s : Step) → usedInSteps k i (ss ++ (s ∷ [])) ≡ (usedInSteps k i ss || occurs k i (s .message))
   used-steps-more [] s = or-false (occurs k i (s .message))
-  used-steps-more (z ∷ ss) s = ap (λ y. occurs k i (z .message) || y) (used-steps-more ss s) ∙ sym (or-assoc (occurs k i (z .message)) (usedInSteps k i ss) (occurs k i (s .message)))
-
+  used-steps-more (z ∷ ss) s =
+      ap (λ y. occurs k i (z .message) || y) (used-steps-more ss s) ∙ sym (or-assoc (occurs k i (z .message)) (usedInSteps k i ss) (occurs k i (s .message)))

@@ -12,9 +12,11 @@ use Rattle.deduction.proofs.Compose.{held-composable, composable-map}
 use Rattle.rules.specs.Script.{Op, LEFT, RIGHT, OPEN, SAME, Script, line, _then_, held}
 use Rattle.rules.specs.Compose.{Composed, compose}
 use Rattle.rules.specs.Walk.{compared, walked, unlocked, apart, walk}
-use Rattle.rules.specs.Grows.{Holds, Grows, stays, adds, Builds, Brings, BroughtAt, takes-left, takes-right, opens, Fits, bringing, repeating, comparing, Closed}
+use Rattle.rules.specs.Grows.{Holds, Grows, stays, adds, Builds, Brings, BroughtAt, takes-left, takes-right, opens, Fits, bringing, repeating}
+use Rattle.rules.specs.Grows.{comparing, Closed}
 use Rattle.rules.proofs.Find.{some-none, holds-held, holds-last, held-append, held-last, held-then}
-use Rattle.rules.proofs.Grows.{grows-join, grows-one, grows-begins, grows-holds, grows-composable, builds-composable, builds-fit, closed-within, opener-within}
+use Rattle.rules.proofs.Grows.{grows-join, grows-one, grows-begins, grows-holds, grows-composable, builds-composable, builds-fit, closed-within}
+use Rattle.rules.proofs.Grows.{opener-within}
 use Rattle.rules.proofs.Compose.{Makes, composed-makes, composed-none}
 
 -- a line that holds nothing leaves the held terms as they were
@@ -33,8 +35,8 @@ pub record Brought (P : Term → Type 0) (G : Op → Term → Type 0) (s : Scrip
 module _ (P : Term → Type 0) (c : Closed P) (G : Op → Term → Type 0) where
   -- compared, or held and then taken apart as `next` does it
   pub walked-right : (s : Script) (op : Op) (t : Term) → Brings G s op t → P t → (next : Script → Script)
-    → Grows (Fits P G) (s then line op (Some t)) (next (s then line op (Some t)))
-    → (o : Option Composed) → compose (s then line op None) t ≡ o → Brought P G s t (walked s op t next o)
+      → Grows (Fits P G) (s then line op (Some t)) (next (s then line op (Some t)))
+      → (o : Option Composed) → compose (s then line op None) t ≡ o → Brought P G s t (walked s op t next o)
   walked-right s op t b p next g None e =
       record {
         grows = grows-join (Fits P G) (grows-one (Fits P G) (bringing b new p)) g;
@@ -75,8 +77,9 @@ module _ (P : Term → Type 0) (c : Closed P) (G : Op → Term → Type 0) where
       (go f p (holds-last s op (built f x y)) (walk-right x) (walk-right y))
       (compose (s then line op None) (built f x y)) refl
     where
-      open-right : (s1 : Script) (n : ℕ) → Holds s1 n (built sealed x y) → P (built sealed x y) → ((s2 : Script) (o : Op) → Brings G s2 o x → P x → Brought P G s2 x (walk s2 o x))
-        → (o : Option Composed) → compose s1 (opener y) ≡ o → Grows (Fits P G) s1 (unlocked s1 o (λ s2 i. walk s2 (OPEN n i) x))
+      open-right : (s1 : Script) (n : ℕ) → Holds s1 n (built sealed x y) → P (built sealed x y)
+          → ((s2 : Script) (o : Op) → Brings G s2 o x → P x → Brought P G s2 x (walk s2 o x))
+          → (o : Option Composed) → compose s1 (opener y) ≡ o → Grows (Fits P G) s1 (unlocked s1 o (λ s2 i. walk s2 (OPEN n i) x))
       open-right s1 n h q rx None e = stays
       open-right s1 n h q rx (Some o) e =
           let m = composed-makes P s1 (opener y) (opener-within P c y (c .seconds sealed x y q)) o e in
@@ -84,9 +87,9 @@ module _ (P : Term → Type 0) (c : Closed P) (G : Op → Term → Type 0) where
           (rx (o .script) (OPEN n (o .slot)) (opens (grows-holds (Builds P) (m .grows) n (built sealed x y) h) (m .holds)) (c .firsts sealed x y q) .grows)
 
       go : (g : Form) → P (built g x y) → Holds (s then line op (Some (built f x y))) (length s) (built g x y)
-        → ((s1 : Script) (o : Op) → Brings G s1 o x → P x → Brought P G s1 x (walk s1 o x))
-        → ((s1 : Script) (o : Op) → Brings G s1 o y → P y → Brought P G s1 y (walk s1 o y))
-        → Grows (Fits P G) (s then line op (Some (built f x y))) (apart g (length s) y (λ s1 o. walk s1 o x) (λ s1 o. walk s1 o y) (s then line op (Some (built f x y))))
+          → ((s1 : Script) (o : Op) → Brings G s1 o x → P x → Brought P G s1 x (walk s1 o x))
+          → ((s1 : Script) (o : Op) → Brings G s1 o y → P y → Brought P G s1 y (walk s1 o y))
+          → Grows (Fits P G) (s then line op (Some (built f x y))) (apart g (length s) y (λ s1 o. walk s1 o x) (λ s1 o. walk s1 o y) (s then line op (Some (built f x y))))
       go pair q h rx ry =
           let s1 : Script = s then line op (Some (built f x y)) in
           let l = rx s1 (LEFT (length s)) (takes-left h) (c .firsts pair x y q) .grows in

@@ -6,10 +6,12 @@ use Prim.Native.Nat.{ℕ, zero, suc}
 use lib.ListN.{length}
 use Rattle.std.specs.declared.option.Option.{Option}
 use Rattle.std.specs.declared.option.Option.the-variants.{None, Some}
-use Rattle.deduction.specs.Term.{public, Form, pair, sealed, Term, name, built, mate, opener, In}
+use Rattle.deduction.specs.Term.{party, public, Form, pair, sealed, Term, name, built, mate, opener, Named, In}
 use Rattle.deduction.specs.Derive.{DerivesFrom}
 use Rattle.deduction.specs.Compose.{Composable}
-use Rattle.rules.specs.Script.{Op, GIVEN, FRESH, FROM, TO, RECV, MATE, LEFT, RIGHT, JOIN, SEAL, DIGEST, ENTRY, OPEN, SAME, SEND, Line, Script, line, _then_, held, builder}
+use Rattle.rules.specs.Script.{Op, GIVEN, FRESH, FROM, TO, RECV, MATE, LEFT, RIGHT, JOIN, SEAL, DIGEST, ENTRY, OPEN, SAME, SEND, Line, Script, line}
+use Rattle.rules.specs.Script.{_then_, held, builder}
+use Rattle.rules.specs.History.{FreshKind}
 
 -- the term that a slot holds, if it holds one
 abbrev pub holdsAt : Script → ℕ → Option Term
@@ -99,13 +101,34 @@ Within P (name k i) = Unit {0}
 Within P (built f a b) = P (built f a b) × Within P a × Within P b
 Within P (mate k) = Unit {0}
 
--- every instruction may bring in every term
-abbrev pub Free : Op → Term → Type 0
-Free op t = Unit {0}
+-- a name of a kind that can be fresh
+abbrev pub CanBeFresh : Term → Type 0
+CanBeFresh (name k i) = FreshKind k
+CanBeFresh (built f a b) = ⊥
+CanBeFresh (mate k) = ⊥
+
+-- which terms instructions name in a script: FRESH a name that can be fresh, FROM and TO a party's name, and MATE makes the mate of a
+-- public key
+abbrev pub Proper : Op → Term → Type 0
+Proper (GIVEN t) u = Unit {0}
+Proper (FRESH t) u = CanBeFresh t
+Proper (FROM t) u = Named party t
+Proper (TO t) u = Named party t
+Proper (RECV t) u = Unit {0}
+Proper (MATE n) u = (i : ℕ) × (u ≡ mate (name public i))
+Proper (LEFT n) u = Unit {0}
+Proper (RIGHT n) u = Unit {0}
+Proper (JOIN n m) u = Unit {0}
+Proper (SEAL n m) u = Unit {0}
+Proper (DIGEST n m) u = Unit {0}
+Proper (ENTRY n m) u = Unit {0}
+Proper (OPEN n m) u = Unit {0}
+Proper (SAME n m) u = Unit {0}
+Proper (SEND n m) u = Unit {0}
 
 -- the script is written line by line, each fitting, and holds only terms of the list
 abbrev pub Written : List Term → Script → Type 0
-Written ts s = Grows (Fits (λ t. In t ts) Free) [] s
+Written ts s = Grows (Fits (λ t. In t ts) Proper) [] s
 
 -- what a script gains by an effect that gives the new terms: it goes on from the earlier script, what is new can be composed, each held
 -- term is derivable from what was held and what is new, and no term is held twice if none was

@@ -6,7 +6,9 @@ use Prim.Native.Nat.{ℕ, _+_}
 use Rattle.std.specs.Orderings.{Decides}
 use Rattle.deduction.specs.Term.{Kind, party, number, shared, public, table, function, Term, name, built, mate, mateOf, Occurs}
 use Rattle.deduction.specs.Derive.{DerivesFrom}
-use Rattle.rules.specs.State.{State, blank, Call, NAME, BUILD, KNOW, STEP, CAN, Refusal, Unknown, WrongKind, NoRoom, EighthParty, TooLate, NoTwoParties, LastStep, NoAddress, Unmakeable, ScriptFull, Told, named, formed, mated, known, stepped, asked, refused, nth, perform}
+use Rattle.rules.specs.State.{State, blank, Call, NAME, BUILD, KNOW, STEP, CAN, Refusal, Unknown, WrongKind, NoRoom, EighthParty, TooLate}
+use Rattle.rules.specs.State.{NoTwoParties, LastStep, NoAddress, Unmakeable, ScriptFull, Told, named, formed, mated, known, stepped, asked, refused}
+use Rattle.rules.specs.State.{nth, perform}
 use Rattle.std.specs.declared.option.Option.the-variants.{Some}
 
 -- all calls with their answers, the newest first

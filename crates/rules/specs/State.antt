@@ -7,8 +7,10 @@ use lib.ListN.{length, getD, set}
 use Rattle.std.specs.declared.option.Option.{Option}
 use Rattle.std.specs.declared.option.Option.the-variants.{None, Some}
 use Rattle.deduction.specs.Decide.{sameTerm, sameKind, isKey, partsFit}
-use Rattle.deduction.specs.Term.{Kind, party, number, shared, public, table, function, Kind-discrete, Form, pair, sealed, digest, entry, Term, name, built, mate, mateOf, same-term}
-use Rattle.rules.specs.Script.{Op, GIVEN, FRESH, FROM, TO, RECV, MATE, LEFT, RIGHT, JOIN, SEAL, DIGEST, ENTRY, OPEN, SAME, SEND, Script, line, find}
+use Rattle.deduction.specs.Term.{Kind, party, number, shared, public, table, function, Kind-discrete, Form, pair, sealed, digest, entry, Term, name}
+use Rattle.deduction.specs.Term.{built, mate, mateOf, same-term}
+use Rattle.rules.specs.Script.{Op, GIVEN, FRESH, FROM, TO, RECV, MATE, LEFT, RIGHT, JOIN, SEAL, DIGEST, ENTRY, OPEN, SAME, SEND, Script, line}
+use Rattle.rules.specs.Script.{find}
 use Rattle.rules.specs.Compose.{compose, composes, missing}
 use Rattle.rules.specs.Effects.{knows, freshens, sends, received, overheard}
 
@@ -200,21 +202,23 @@ newScripts table n = []
 newScripts function n = []
 
 abbrev pub names : State → Kind → Outcome
-names st k = outcome (named k (length (st .terms))) (record { terms = st .terms ++ newTerms k (length (st .terms)); scripts = st .scripts ++ newScripts k (length (st .terms)); steps = st .steps })
+names st k =
+    outcome (named k (length (st .terms)))
+    (record { terms = st .terms ++ newTerms k (length (st .terms)); scripts = st .scripts ++ newScripts k (length (st .terms)); steps = st .steps })
 
 abbrev pub nameTests : State → ℕ → Kind → Outcome
 nameTests st c k =
     cond (ltb 512 (length (st .terms) + length (newTerms k (length (st .terms))))) (refuses st (NAME c) NoRoom)
-      (cond (ltb 8 (length (st .scripts) + length (newScripts k (length (st .terms))))) (refuses st (NAME c) EighthParty)
-        (names st k))
+    (cond (ltb 8 (length (st .scripts) + length (newScripts k (length (st .terms))))) (refuses st (NAME c) EighthParty)
+    (names st k))
 
 -- BUILD
 abbrev pub placed : State → Call → Term → (ℕ → Told) → Option ℕ → Outcome
 placed st c t told (Some n) = outcome (told n) st
 placed st c t told None =
     cond (ltb (length (st .terms)) 512)
-      (outcome (told (length (st .terms))) (record { terms = st .terms ++ (t ∷ []); scripts = st .scripts; steps = st .steps }))
-      (refuses st c NoRoom)
+    (outcome (told (length (st .terms))) (record { terms = st .terms ++ (t ∷ []); scripts = st .scripts; steps = st .steps }))
+    (refuses st c NoRoom)
 
 abbrev pub builds : State → Call → Form → ℕ → ℕ → Term → Term → Outcome
 builds st c f a b ta tb =
@@ -226,10 +230,10 @@ mates st c a ta = cond (isKey ta) (placed st c (mateOf ta) (mated a) (placeOf (s
 abbrev pub buildTests : State → ℕ → ℕ → ℕ → Outcome
 buildTests st f a b =
     cond (eqb f 4)
-      (with (nth (st .terms) a) (refuses st (BUILD f a b) Unknown) (mates st (BUILD f a b) a))
-      (with (formOf f) (refuses st (BUILD f a b) Unknown) (λ form.
-        with (nth (st .terms) a) (refuses st (BUILD f a b) Unknown) (λ ta.
-          with (nth (st .terms) b) (refuses st (BUILD f a b) Unknown) (λ tb. builds st (BUILD f a b) form a b ta tb))))
+    (with (nth (st .terms) a) (refuses st (BUILD f a b) Unknown) (mates st (BUILD f a b) a))
+    (with (formOf f) (refuses st (BUILD f a b) Unknown) (λ form.
+    with (nth (st .terms) a) (refuses st (BUILD f a b) Unknown) (λ ta.
+    with (nth (st .terms) b) (refuses st (BUILD f a b) Unknown) (λ tb. builds st (BUILD f a b) form a b ta tb))))
 
 -- a script of more than 512 instructions is refused
 abbrev pub tooLong : Script → Bool
@@ -243,26 +247,26 @@ noSteps (s ∷ ss) = false
 abbrev pub learns : State → ℕ → ℕ → Script → Outcome
 learns st p n s =
     cond (tooLong s) (refuses st (KNOW p n) (ScriptFull p))
-      (outcome (known p n) (record { terms = st .terms; scripts = set (st .scripts) p s; steps = st .steps }))
+    (outcome (known p n) (record { terms = st .terms; scripts = set (st .scripts) p s; steps = st .steps }))
 
 abbrev pub knowTests : State → ℕ → ℕ → Outcome
 knowTests st p n =
     with (nth (st .scripts) p) (refuses st (KNOW p n) Unknown) (λ s.
-      with (nth (st .terms) n) (refuses st (KNOW p n) Unknown) (λ t.
-        cond (noSteps (st .steps)) (learns st p n (knows s t)) (refuses st (KNOW p n) TooLate)))
+    with (nth (st .terms) n) (refuses st (KNOW p n) Unknown) (λ t.
+    cond (noSteps (st .steps)) (learns st p n (knows s t)) (refuses st (KNOW p n) TooLate)))
 
 -- STEP: the scripts after it, if none is too long
 abbrev pub stepped-to : State → ℕ → ℕ → ℕ → Term → Script → Script → Script → Outcome
 stepped-to st a b n m sa sb sl =
     cond (tooLong sa) (refuses st (STEP a b n) (ScriptFull a))
-      (cond (tooLong sb) (refuses st (STEP a b n) (ScriptFull b))
-        (cond (tooLong sl) (refuses st (STEP a b n) (ScriptFull 0))
-          (outcome (stepped a b n (length (st .steps)))
-            (record {
-              terms = st .terms;
-              scripts = set (set (set (st .scripts) a sa) b sb) 0 sl;
-              steps = st .steps ++ (record { sender = a; receiver = b; message = m; sent = length sa; received = length sb; heard = length sl } ∷ []);
-            }))))
+    (cond (tooLong sb) (refuses st (STEP a b n) (ScriptFull b))
+    (cond (tooLong sl) (refuses st (STEP a b n) (ScriptFull 0))
+    (outcome (stepped a b n (length (st .steps)))
+    (record {
+      terms = st .terms;
+      scripts = set (set (set (st .scripts) a sa) b sb) 0 sl;
+      steps = st .steps ++ (record { sender = a; receiver = b; message = m; sent = length sa; received = length sb; heard = length sl } ∷ []);
+    }))))
 
 abbrev pub missingNumber : State → Option Term → ℕ
 missingNumber st None = 0
@@ -272,8 +276,8 @@ missingNumber st (Some t) = with (placeOf (st .terms) t) 0 (λ n. n)
 abbrev pub delivers : State → ℕ → ℕ → ℕ → Term → Script → Script → Script → Term → Term → ℕ → Outcome
 delivers st a b n m sa sb sl na nb address =
     with (sends address (compose (freshens sa (freshNames st m)) m))
-      (refuses st (STEP a b n) (Unmakeable (missingNumber st (missing (freshens sa (freshNames st m)) m))))
-      (λ sa′. stepped-to st a b n m sa′ (received sb na m) (overheard sl na nb m))
+    (refuses st (STEP a b n) (Unmakeable (missingNumber st (missing (freshens sa (freshNames st m)) m))))
+    (λ sa′. stepped-to st a b n m sa′ (received sb na m) (overheard sl na nb m))
 
 abbrev pub addresses : State → ℕ → ℕ → ℕ → Term → Script → Script → Script → Term → Term → Outcome
 addresses st a b n m sa sb sl na nb =
@@ -283,22 +287,22 @@ addresses st a b n m sa sb sl na nb =
 abbrev pub stepTests : State → ℕ → ℕ → ℕ → Script → Script → Script → Term → Outcome
 stepTests st a b n sa sb sl m =
     cond (eqb a b) (refuses st (STEP a b n) NoTwoParties)
-      (with (nameOf st a) (refuses st (STEP a b n) NoTwoParties) (λ na.
-        with (nameOf st b) (refuses st (STEP a b n) NoTwoParties) (λ nb.
-          cond (ltb (length (st .steps)) 64) (addresses st a b n m sa sb sl na nb) (refuses st (STEP a b n) LastStep))))
+    (with (nameOf st a) (refuses st (STEP a b n) NoTwoParties) (λ na.
+    with (nameOf st b) (refuses st (STEP a b n) NoTwoParties) (λ nb.
+    cond (ltb (length (st .steps)) 64) (addresses st a b n m sa sb sl na nb) (refuses st (STEP a b n) LastStep))))
 
 abbrev pub stepCall : State → ℕ → ℕ → ℕ → Outcome
 stepCall st a b n =
     with (nth (st .scripts) a) (refuses st (STEP a b n) Unknown) (λ sa.
-      with (nth (st .scripts) b) (refuses st (STEP a b n) Unknown) (λ sb.
-        with (nth (st .terms) n) (refuses st (STEP a b n) Unknown) (λ m.
-          stepTests st a b n sa sb (getD (st .scripts) 0 []) m)))
+    with (nth (st .scripts) b) (refuses st (STEP a b n) Unknown) (λ sb.
+    with (nth (st .terms) n) (refuses st (STEP a b n) Unknown) (λ m.
+    stepTests st a b n sa sb (getD (st .scripts) 0 []) m)))
 
 -- CAN
 abbrev pub canCall : State → ℕ → ℕ → Outcome
 canCall st p n =
     with (nth (st .scripts) p) (refuses st (CAN p n) Unknown) (λ s.
-      with (nth (st .terms) n) (refuses st (CAN p n) Unknown) (λ t. outcome (asked p n (composes s t)) st))
+    with (nth (st .terms) n) (refuses st (CAN p n) Unknown) (λ t. outcome (asked p n (composes s t)) st))
 
 -- what each call answers and does, in every state
 abbrev pub perform : State → Call → Outcome

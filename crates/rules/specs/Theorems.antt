@@ -1,5 +1,5 @@
 -- The statements that the contracts name.
-use mathlib.Core.Logic.{_↔_}
+use mathlib.Core.Logic.{_⊎_, _↔_}
 use mathlib.Core.List.{List, [], _∷_}
 use mathlib.Core.Path.{_≡_}
 use Prim.Native.Nat.{ℕ, _<_, _≤_}
@@ -7,14 +7,17 @@ use lib.ListN.{length}
 use Rattle.std.specs.Orderings.{Decides}
 use Rattle.std.specs.declared.option.Option.the-variants.{None, Some}
 use Rattle.deduction.specs.Term.{party, number, pair, Term, name, built, mate, Formed, In, among}
+use Rattle.deduction.specs.Derive.{DerivesFrom}
 use Rattle.deduction.specs.Compose.{Composable, Saturated, Represents}
 use Rattle.rules.specs.Script.{Op, GIVEN, FRESH, FROM, TO, RECV, RIGHT, LEFT, JOIN, SAME, SEND, Script, line, find, held}
 use Rattle.rules.specs.Compose.{Composed, compose, composes, missing}
 use Rattle.rules.specs.Saturate.{takeApart, Saturates, parts, saturate}
 use Rattle.rules.specs.Walk.{walk}
 use Rattle.rules.specs.Effects.{knows, sent, received, overheard}
-use Rattle.rules.specs.State.{State, blank, Call, NAME, BUILD, KNOW, STEP, Told, nth, perform}
-use Rattle.rules.specs.History.{History, Came, Given}
+use Rattle.rules.specs.State.{State, blank, Call, NAME, BUILD, KNOW, STEP, CAN, Refusal, Unknown, WrongKind, NoRoom, EighthParty, TooLate}
+use Rattle.rules.specs.State.{NoTwoParties, LastStep, NoAddress, Unmakeable, ScriptFull, Told, named, formed, mated, known, stepped, asked, refused}
+use Rattle.rules.specs.State.{nth, perform}
+use Rattle.rules.specs.History.{History, Came, Stands, FreshIn, Given}
 use Rattle.rules.specs.Grows.{Holds, Begins, Apart, Written, Gains, FreshTerm, IsName, Once, Unheld}
 
 -- a slot is found exactly if some slot holds the term; it holds the term, and none below it does
@@ -79,7 +82,8 @@ abbrev pub WalkingGains : Type 0
 WalkingGains = (s : Script) (t : Term) → AllFormed (t ∷ held s) → Gains s (among (t ∷ [])) (walk s (RECV t) t)
 
 abbrev pub KnowingGains : Type 0
-KnowingGains = (s : Script) (t : Term) → AllFormed (t ∷ held s) → Saturated (held s) → Gains s (among (t ∷ [])) (knows s t) × Saturated (held (knows s t))
+KnowingGains =
+    (s : Script) (t : Term) → AllFormed (t ∷ held s) → Saturated (held s) → Gains s (among (t ∷ [])) (knows s t) × Saturated (held (knows s t))
 
 abbrev pub ReceivingGains : Type 0
 ReceivingGains =
@@ -121,11 +125,50 @@ CallsOnlyAdd = (st : State) (c : Call) → Keeps st (perform st c .state)
 
 -- after every list of calls from blank, a script stands for what its agent was given
 abbrev pub ScriptsRepresent : Type 0
-ScriptsRepresent = (past : History) (st : State) → Came past st → (p : ℕ) (s : Script) → nth (st .scripts) p ≡ Some s → Represents (among (held s)) (Given past p)
+ScriptsRepresent =
+    (past : History) (st : State) → Came past st → (p : ℕ) (s : Script) → nth (st .scripts) p ≡ Some s → Represents (among (held s)) (Given past p)
 
 -- each line of a script fits what stands before it, and its slots hold only terms of the state
 abbrev pub LinesFit : Type 0
 LinesFit = (past : History) (st : State) → Came past st → (p : ℕ) (s : Script) → nth (st .scripts) p ≡ Some s → Written (st .terms) s
+
+-- x is the number of a name or a mate in the message t that the sender cannot build
+abbrev pub MissingFrom : History → ℕ → ℕ → Term → Type 0
+MissingFrom past a x t =
+    (u : Term) × Stands past x u × Leaf u × In u (parts t) × (DerivesFrom (λ v. Given past a v ⊎ FreshIn past t v) u → ⊥)
+
+-- only a step is refused so
+abbrev pub MissingIn : History → ℕ → Call → Type 0
+MissingIn past x (NAME k) = ⊥
+MissingIn past x (BUILD f a b) = ⊥
+MissingIn past x (KNOW p n) = ⊥
+MissingIn past x (STEP a b n) = (t : Term) → Stands past n t → MissingFrom past a x t
+MissingIn past x (CAN p n) = ⊥
+
+abbrev pub MissingBy : History → Call → Refusal → Type 0
+MissingBy past c Unknown = Unit {0}
+MissingBy past c WrongKind = Unit {0}
+MissingBy past c NoRoom = Unit {0}
+MissingBy past c EighthParty = Unit {0}
+MissingBy past c TooLate = Unit {0}
+MissingBy past c NoTwoParties = Unit {0}
+MissingBy past c LastStep = Unit {0}
+MissingBy past c NoAddress = Unit {0}
+MissingBy past c (Unmakeable x) = MissingIn past x c
+MissingBy past c (ScriptFull p) = Unit {0}
+
+abbrev pub MissingTold : History → Told → Type 0
+MissingTold past (named k n) = Unit {0}
+MissingTold past (formed f a b n) = Unit {0}
+MissingTold past (mated a n) = Unit {0}
+MissingTold past (known p n) = Unit {0}
+MissingTold past (stepped a b n l) = Unit {0}
+MissingTold past (asked p n b) = Unit {0}
+MissingTold past (refused c r) = MissingBy past c r
+
+-- after every list of calls from blank, only a step is refused as unmakeable, with such a number
+abbrev pub MissingIsNamed : Type 0
+MissingIsNamed = (past : History) (st : State) → Came past st → (c : Call) → MissingTold past (perform st c .told)
 
 -- no script holds a term in two slots
 abbrev pub NoTermTwice : Type 0

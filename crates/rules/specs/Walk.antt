@@ -32,5 +32,6 @@ apart entry n b walkA walkB s = s
 -- the script after the instruction op brought the term in
 abbrev pub walk : Script → Op → Term → Script
 walk s op (name k i) = walked s op (name k i) (λ s1. s1) (compose (s then line op None) (name k i))
-walk s op (built f a b) = walked s op (built f a b) (apart f (length s) b (λ s1 o. walk s1 o a) (λ s1 o. walk s1 o b)) (compose (s then line op None) (built f a b))
+walk s op (built f a b) =
+    walked s op (built f a b) (apart f (length s) b (λ s1 o. walk s1 o a) (λ s1 o. walk s1 o b)) (compose (s then line op None) (built f a b))
 walk s op (mate k) = walked s op (mate k) (λ s1. s1) (compose (s then line op None) (mate k))

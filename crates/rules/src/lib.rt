@@ -5,8 +5,10 @@
 // Nothing here computes: each function carries one theorem in its contract.
 ghost use Rattle.rules.specs.Theorems.{FindingFinds, ComposingDecides, ComposingMakes, MissingMisses, SaturationEndsSaturated};
 ghost use Rattle.rules.specs.Theorems.{WalkingGains, KnowingGains, ReceivingGains, OverhearingGains, SendingGains};
-ghost use Rattle.rules.specs.Theorems.{RulesOnlyAppend, CallsOnlyAdd, ScriptsRepresent, LinesFit, NoTermTwice, EveryCallHasOneOutcome, SmallExample};
+ghost use Rattle.rules.specs.Theorems.{RulesOnlyAppend, CallsOnlyAdd, ScriptsRepresent, LinesFit};
+ghost use Rattle.rules.specs.Theorems.{NoTermTwice, MissingIsNamed, EveryCallHasOneOutcome, SmallExample};
 ghost use Rattle.rules.specs.History.{AnswersAreRight, NumbersStand};
+ghost use Rattle.rules.specs.Invariant.{StatesAreStable};
 
 // The slot that is found holds the term, and is the lowest that does; none is found exactly if no slot holds it.
 pub fn finding_finds_the_lowest_slot()
@@ -91,6 +93,17 @@ pub fn numbers_stand_for_terms()
 // After every list of calls every call is answered right.
 pub fn answers_are_right()
     ensures { λ _. ⌜ AnswersAreRight ⌝ }
+{}
+
+// The term that a refused step answers as missing is a name or a mate in the message that the sender cannot build.
+pub fn missing_term_cannot_be_built()
+    ensures { λ _. ⌜ MissingIsNamed ⌝ }
+{}
+
+// After every list of calls: terms are well-formed, apart and closed under parts, a name's identity is its number, there is one script
+// for the listener and one for each party, and the test whether a name is used decides it.
+pub fn every_state_is_stable()
+    ensures { λ _. ⌜ StatesAreStable ⌝ }
 {}
 
 // Every call has one answer, and leaves one state.

@@ -3,3 +3,4 @@ pub mod Done
 pub mod Making
 pub mod Parts
 pub mod Laws
+pub mod Records

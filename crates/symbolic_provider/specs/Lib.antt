@@ -2,3 +2,4 @@ pub mod Values
 pub mod State
 pub mod Outcome
 pub mod Makings
+pub mod Records

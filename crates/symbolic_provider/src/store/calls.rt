@@ -5,6 +5,7 @@ ghost use Rattle.provider.specs.Meaning.{Answers, Same};
 ghost use Rattle.provider.specs.declared.Making.the-variants.{Atom, Join, Left, Right, Seal, Open, Digest, Entry, Mate};
 ghost use Rattle.deduction.specs.Term.{Formed, Term};
 ghost use Rattle.symbolic_provider.specs.Outcome.{Outcome};
+ghost use Rattle.symbolic_provider.specs.Records.{Recorded};
 ghost use Rattle.symbolic_provider.specs.State.{fits-of, issued-of, meaning-of};
 ghost use Rattle.symbolic_provider.specs.Values.{term-algebra};
 use super::SymbolicProvider;
@@ -12,6 +13,7 @@ use provider::Handle;
 use provider::Making;
 use provider::Provider;
 use provider::ProviderError;
+use terms::TermNode;
 use terms::Terms;
 
 impl SymbolicProvider {
@@ -22,6 +24,20 @@ impl SymbolicProvider {
         SymbolicProvider {
             terms: Terms::blank(),
         }
+    }
+
+    // A handle's record, whose parts are handles too: they are the numbers of the table.
+    fn record_of(&self, handle: Handle) -> Option<TermNode>
+        ensures { λ r. ⌜ Recorded (issued-of (now (self .entry))) handle r ⌝ }
+    {
+        self.terms.get(handle)
+    }
+
+    // The term that a handle stands for, by its name or by the handles of its parts; none if the handle was never issued.
+    pub fn term(&self, handle: Handle) -> Option<TermNode>
+        ensures { λ r. ⌜ Recorded (issued-of (now (self .entry))) handle r ⌝ }
+    {
+        self.record_of(handle)
     }
 
     // Whether two handles stand for one term: they are one number then.
