@@ -9,6 +9,7 @@ use random::Random;
 use std::io;
 use terms::Form;
 use terms::Kind;
+use terms::TermId;
 use terms::Terms;
 
 const PLACES: usize = 24;
@@ -77,7 +78,35 @@ fn agree(random: &mut Random) -> Option<usize> {
     Some(terms.len())
 }
 
+// What is missing in 500 nested pairs, each of the one before with itself: a recursion would visit the innermost name 2^500 times.
+fn missing_in_nested_pairs(held: bool) -> Option<TermId> {
+    let mut terms: Terms<512> = Terms::blank();
+    let mut marks = [false; 512];
+    marks[0] = held;
+    let mut last = terms.name(Kind::Number, 0).unwrap_or(0);
+    for _ in 0..500 {
+        last = terms.build(Form::Pair, last, last).unwrap_or(0);
+    }
+    terms.first_missing(&marks, last)
+}
+
+fn print_nested(rt: &LibcRuntime, held: bool) -> io::Result<()> {
+    let which = if held { "held" } else { "not held" };
+    match missing_in_nested_pairs(held) {
+        Some(term) => println!(
+            rt,
+            "500 nested pairs, the innermost name {which}: term {term} is missing"
+        ),
+        None => println!(
+            rt,
+            "500 nested pairs, the innermost name {which}: composable"
+        ),
+    }
+}
+
 fn main(rt: LibcRuntime) -> io::Result<()> {
+    print_nested(&rt, true)?;
+    print_nested(&rt, false)?;
     let mut random = Random::new(20261117);
     let mut judged: usize = 0;
     for table in 0..3000 {
