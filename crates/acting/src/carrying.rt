@@ -20,7 +20,7 @@ fn carry<P: Provider>(
     end: usize,
     part: Part,
 ) -> Result<usize, Halt>
-    ensures { CarriedOut algebra meaning readings.now part base (written script.now) start end provider.old slots.old result provider.new slots.new }
+    ensures { CarriedOut P.algebra P.meaning readings.now part base (written script.now) start end provider.old slots.old result provider.new slots.new }
 {
     let mut sames = 0;
     let room = slots.len().saturating_sub(base);
@@ -51,10 +51,10 @@ pub fn carry_out<P: Provider>(
     end: usize,
     part: Part,
 ) -> Result<usize, Halt>
-    ensures whole { CarriedOut algebra meaning readings.now part base (written script.now) start end provider.old slots.old result provider.new slots.new }
-    ensures keeps { KeptOutside meaning (base + start) (base + end) provider.old slots.old provider.new slots.new }
+    ensures whole { CarriedOut P.algebra P.meaning readings.now part base (written script.now) start end provider.old slots.old result provider.new slots.new }
+    ensures keeps { KeptOutside P.meaning (base + start) (base + end) provider.old slots.old provider.new slots.new }
     ensures bounds { Bounded start end result }
-    ensures stands { PartStands algebra meaning readings.now part base (written script.now) start end provider.old slots.old result provider.new slots.new }
+    ensures stands { PartStands P.algebra P.meaning readings.now part base (written script.now) start end provider.old slots.old result provider.new slots.new }
 {
     carry(provider, readings, slots, base, script, start, end, part)
 }

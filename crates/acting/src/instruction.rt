@@ -46,7 +46,7 @@ pub(crate) fn act<P: Provider>(
     op: Instruction,
     part: Part,
 ) -> Result<Handle, ProviderError>
-    ensures { Acts algebra meaning (op_act readings.now part base slots.now op) provider.old result provider.new }
+    ensures { Acts P.algebra P.meaning (op_act readings.now part base slots.now op) provider.old result provider.new }
 {
     match op {
         Instruction::Given(term) | Instruction::Fresh(term) => Ok(reading(readings, term)),

@@ -32,7 +32,7 @@ fn make<P: Provider>(
     term: TermId,
     node: TermNode,
 ) -> Result<Handle, ProviderError>
-    ensures { Acts algebra meaning (node_act readings.now term node) provider.old result provider.new }
+    ensures { Acts P.algebra P.meaning (node_act readings.now term node) provider.old result provider.new }
 {
     match node {
         TermNode::Name(kind, _) => provider.atom(kind_number(kind), term),
@@ -58,7 +58,7 @@ fn load_terms<P: Provider>(
     terms: &Terms<512>,
     readings: &mut [Handle],
 ) -> Result<usize, Halt>
-    ensures { Loads algebra meaning (listed terms.now) provider.old readings.old result provider.new readings.new }
+    ensures { Loads P.algebra P.meaning (listed terms.now) provider.old readings.old result provider.new readings.new }
 {
     for term in 0..readings.len() {
         let Some(node) = terms.get(term) else {
@@ -78,10 +78,10 @@ pub fn load<P: Provider>(
     terms: &Terms<512>,
     readings: &mut [Handle],
 ) -> Result<usize, Halt>
-    ensures whole { Loads algebra meaning (listed terms.now) provider.old readings.old result provider.new readings.new }
-    ensures keeps { KeptOutside meaning 0 (length (listed terms.now)) provider.old readings.old provider.new readings.new }
+    ensures whole { Loads P.algebra P.meaning (listed terms.now) provider.old readings.old result provider.new readings.new }
+    ensures keeps { KeptOutside P.meaning 0 (length (listed terms.now)) provider.old readings.old provider.new readings.new }
     ensures bounds { Bounded 0 (length (listed terms.now)) result }
-    ensures stands { LoadStands algebra meaning (listed terms.now) readings.old result provider.new readings.new }
+    ensures stands { LoadStands P.algebra P.meaning (listed terms.now) readings.old result provider.new readings.new }
 {
     load_terms(provider, terms, readings)
 }

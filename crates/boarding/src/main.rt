@@ -1,4 +1,7 @@
 // Rehearses a pilot's boarding on the byte provider, and prints each action: who composes what, which bytes go out, what is compared.
+
+#![tactic(auto)]
+
 mod actions;
 mod boarding;
 

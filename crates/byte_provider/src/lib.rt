@@ -3,6 +3,9 @@
 // Every call takes any numbers and answers a handle, Wrong or Full. Its contract says the whole outcome: which handle, what it
 // stands for, which bytes are in use afterwards; a refusal leaves the provider equal to what it was. The calls are shown to
 // keep the laws of a provider, and the bytes are those that docs/PROVIDERS.md describes.
+
+#![tactic(auto)]
+
 ghost use Rattle.byte_provider.specs.Example.{SealedExample};
 
 mod plan;

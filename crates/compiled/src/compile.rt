@@ -28,7 +28,7 @@ pub fn compile_and_run<P: Provider>(
     readings: &mut [Handle],
     slots: &mut [Handle],
 ) -> Result<Played, RunFault>
-    ensures { Compiled algebra meaning calls.now protocol.old answers.old provider.old readings.old slots.old result protocol.new answers.new provider.new readings.new slots.new }
+    ensures { Compiled P.algebra P.meaning calls.now protocol.old answers.old provider.old readings.old slots.old result protocol.new answers.new provider.new readings.new slots.new }
 {
     if perform_all(protocol, calls, answers) {
         run(protocol, provider, readings, slots)

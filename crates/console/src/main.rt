@@ -2,6 +2,9 @@
 //
 // A line is words parted by single spaces, with numbers in decimal. A line that is no call, or whose call needs a provider
 // before one is chosen, is answered by `unread`; an empty line by nothing.
+
+#![tactic(auto)]
+
 use console::Console;
 use std::io;
 use std::io::{BufRead, BufReader, BufWriter, Write};

@@ -1,6 +1,9 @@
 // What can be derived from known messages, in the symbolic model: terms as trees, keys and their openers, the seven ways
 // of deriving a term, what can be composed from held terms, and when held terms are saturated.
 // The crate promises that these agree. Nothing here computes: each function carries one theorem in its contract.
+
+#![tactic(auto)]
+
 ghost use Rattle.deduction.specs.Theorems.{ComposableIffDerivable, FreshNamesKeepEquivalence, WaysKeepDerivable, DerivabilityGrows};
 ghost use Rattle.deduction.specs.Theorems.{DerivabilityIsTransitive, NamesComeFromGivens, DerivableIsFormed, OpenerCases};
 

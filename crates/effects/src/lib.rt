@@ -1,6 +1,9 @@
 // What initial knowledge and a step write into one agent's script, exactly by the rules.
 //
 // Each function answers the script after the effect, so that a refusal leaves nothing behind.
+
+#![tactic(auto)]
+
 mod fresh;
 mod knowledge;
 mod listener;

@@ -2,6 +2,9 @@
 //
 // Sets of terms are marks by number. What stands within the marked terms is marked in one pass from the highest number down, since
 // parts have lower numbers: shared parts cost nothing.
+
+#![tactic(auto)]
+
 mod fresh;
 mod given;
 mod marks;

@@ -1,5 +1,8 @@
 // Compares what the table of terms judges in one pass with a plain recursion into the parts, on thousands of random small
 // tables with random held terms: which terms are composable, and which term is missing first.
+
+#![tactic(auto)]
+
 mod naive;
 mod random;
 

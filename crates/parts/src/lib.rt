@@ -3,6 +3,9 @@
 // The crate promises, after every list of calls from blank: the state is within its limits, its steps are those that were granted, in
 // order, and their parts follow each other without gap, each with the instructions that its sender or receiver can do there.
 // Nothing here computes: each function carries one theorem in its contract.
+
+#![tactic(auto)]
+
 ghost use Rattle.parts.specs.Law.{StatesWithinLimits, StepsWrote, StepsAreGranted};
 ghost use Rattle.parts.specs.Example.{ExampleParts};
 

@@ -3,6 +3,9 @@
 // Its calls name and build terms, give agents initial knowledge, add steps, and ask what an agent can build. Each answers and does
 // exactly what the rules say, and a refused call alters nothing. A step is refused as unmakeable exactly when its sender cannot
 // build the message, and whether an agent can build a term is answered exactly: this holds after every list of calls.
+
+#![tactic(auto)]
+
 mod call;
 mod content;
 mod protocol;

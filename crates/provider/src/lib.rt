@@ -3,6 +3,9 @@
 // A provider means two things at every moment: the values that its handles stand for, and the makings that fit. Its laws
 // say what sealing and opening, joining and halving, keys and their mates are to each other. Code that uses providers is
 // written and proved once, against this meaning, and holds on every provider that keeps the laws.
+
+#![tactic(auto)]
+
 ghost use Rattle.std.specs.Prelude.{◌≡◌, ℕ};
 ghost use Rattle.provider.specs.Algebra.{Algebra, Halves, Mates, Seals, Builds};
 ghost use Rattle.provider.specs.Meaning.{Meaning, Answers, Same, Unfit, Holds};
@@ -102,7 +105,7 @@ pub trait Provider {
 
 // Carries out one making.
 pub fn perform<P: Provider>(provider: &mut P, making: Making) -> Result<Handle, ProviderError>
-    ensures { Answers algebra meaning provider.old making result provider.new }
+    ensures { Answers P.algebra P.meaning provider.old making result provider.new }
 {
     match making {
         Making::Atom(kind, id) => provider.atom(kind, id),
@@ -123,7 +126,7 @@ fn round_trip<P: Provider>(
     content: Handle,
     key: Handle,
 ) -> Result<Handle, ProviderError>
-    ensures { Reopened algebra meaning provider.old content key result provider.new }
+    ensures { Reopened P.algebra P.meaning provider.old content key result provider.new }
 {
     let sealed = provider.seal(content, key)?;
     let opener = provider.mate(key)?;
@@ -136,7 +139,7 @@ pub fn reopen<P: Provider>(
     content: Handle,
     key: Handle,
 ) -> Result<Handle, ProviderError>
-    ensures { Reopened algebra meaning provider.old content key result provider.new }
+    ensures { Reopened P.algebra P.meaning provider.old content key result provider.new }
 {
     round_trip(provider, content, key)
 }

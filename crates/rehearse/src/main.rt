@@ -1,5 +1,8 @@
 // Rehearses how a passage plan goes out: a shore station seals the plan under a key that it shares with a pilot's unit,
 // the unit opens it and compares it with the station's plan, and a unit with another key does not get it.
+
+#![tactic(auto)]
+
 mod passage;
 
 use byte_provider::ByteProvider;

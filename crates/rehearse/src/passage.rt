@@ -72,7 +72,7 @@ fn opens_to<P: Provider>(
     opener: Handle,
     plan: Handle,
 ) -> Result<bool, ProviderError>
-    ensures { OpensTo algebra meaning provider.old sealed opener plan result provider.new }
+    ensures { OpensTo P.algebra P.meaning provider.old sealed opener plan result provider.new }
 {
     match provider.open(sealed, opener) {
         Ok(opened) => Ok(provider.same(plan, opened)),

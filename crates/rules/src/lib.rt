@@ -3,6 +3,9 @@
 // The crate promises that after every list of calls from blank each answer is right: a step is granted only if its sender can build
 // the message and refused as unmakeable only if it cannot, and whether an agent can build a term is answered exactly.
 // Nothing here computes: each function carries one theorem in its contract.
+
+#![tactic(auto)]
+
 ghost use Rattle.rules.specs.Theorems.{FindingFinds, ComposingDecides, ComposingMakes, MissingMisses, SaturationEndsSaturated};
 ghost use Rattle.rules.specs.Theorems.{WalkingGains, KnowingGains, ReceivingGains, OverhearingGains, SendingGains};
 ghost use Rattle.rules.specs.Theorems.{RulesOnlyAppend, CallsOnlyAdd, ScriptsRepresent, LinesFit};

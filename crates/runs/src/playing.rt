@@ -22,7 +22,7 @@ fn start_parties<P: Provider>(
     readings: &[Handle],
     slots: &mut [Handle],
 ) -> Result<usize, RunFault>
-    ensures whole { Tasks algebra meaning (listed protocol.now.content.terms) (lines_of protocol.now.content) readings.now (start_tasks (view_of protocol.now) (length (lines_of protocol.now.content))) provider.old slots.old result provider.new slots.new }
+    ensures whole { Tasks P.algebra P.meaning (listed protocol.now.content.terms) (lines_of protocol.now.content) readings.now (start_tasks (view_of protocol.now) (length (lines_of protocol.now.content))) provider.old slots.old result provider.new slots.new }
     ensures few { IfOk result (λ n. n ≤ 4096) }
 {
     let mut sames = 0;
@@ -47,7 +47,7 @@ fn play_step<P: Provider>(
     number: usize,
     step: Step,
 ) -> Result<usize, RunFault>
-    ensures whole { Tasks algebra meaning (listed protocol.now.content.terms) (lines_of protocol.now.content) readings.now (both_tasks number step) provider.old slots.old result provider.new slots.new }
+    ensures whole { Tasks P.algebra P.meaning (listed protocol.now.content.terms) (lines_of protocol.now.content) readings.now (both_tasks number step) provider.old slots.old result provider.new slots.new }
     ensures few { IfOk result (λ n. n ≤ 1024) }
 {
     let sent = perform(protocol, provider, readings, slots, send_task(number, step))?;
@@ -68,7 +68,7 @@ fn play_steps<P: Provider>(
     readings: &[Handle],
     slots: &mut [Handle],
 ) -> Result<usize, RunFault>
-    ensures whole { Tasks algebra meaning (listed protocol.now.content.terms) (lines_of protocol.now.content) readings.now (step_tasks 0 (steps_of protocol.now.content)) provider.old slots.old result provider.new slots.new }
+    ensures whole { Tasks P.algebra P.meaning (listed protocol.now.content.terms) (lines_of protocol.now.content) readings.now (step_tasks 0 (steps_of protocol.now.content)) provider.old slots.old result provider.new slots.new }
     ensures few { IfOk result (λ n. n ≤ 65536) }
 {
     let mut sames = 0;
@@ -88,7 +88,7 @@ fn play_all<P: Provider>(
     readings: &[Handle],
     slots: &mut [Handle],
 ) -> Result<usize, RunFault>
-    ensures { Tasks algebra meaning (listed protocol.now.content.terms) (lines_of protocol.now.content) readings.now (tasks_of (listed protocol.now.content.terms) (lines_of protocol.now.content) (steps_of protocol.now.content)) provider.old slots.old result provider.new slots.new }
+    ensures { Tasks P.algebra P.meaning (listed protocol.now.content.terms) (lines_of protocol.now.content) readings.now (tasks_of (listed protocol.now.content.terms) (lines_of protocol.now.content) (steps_of protocol.now.content)) provider.old slots.old result provider.new slots.new }
 {
     let started = start_parties(protocol, provider, readings, slots)?;
     let played = play_steps(protocol, provider, readings, slots)?;
@@ -126,7 +126,7 @@ fn load_and_play<P: Provider>(
     readings: &mut [Handle],
     slots: &mut [Handle],
 ) -> Result<Played, RunFault>
-    ensures { Runs algebra meaning (listed protocol.now.content.terms) (lines_of protocol.now.content) (steps_of protocol.now.content) provider.old readings.old slots.old result provider.new readings.new slots.new }
+    ensures { Runs P.algebra P.meaning (listed protocol.now.content.terms) (lines_of protocol.now.content) (steps_of protocol.now.content) provider.old readings.old slots.old result provider.new readings.new slots.new }
 {
     match load(provider, protocol.terms(), readings) {
         Ok(_) => answer(protocol, play_all(protocol, provider, readings, slots)),
@@ -141,7 +141,7 @@ fn try_run<P: Provider>(
     readings: &mut [Handle],
     slots: &mut [Handle],
 ) -> Result<Played, RunFault>
-    ensures { Ran algebra meaning (listed protocol.now.content.terms) (lines_of protocol.now.content) (steps_of protocol.now.content) provider.old readings.old slots.old result provider.new readings.new slots.new }
+    ensures { Ran P.algebra P.meaning (listed protocol.now.content.terms) (lines_of protocol.now.content) (steps_of protocol.now.content) provider.old readings.old slots.old result provider.new readings.new slots.new }
 {
     if is_enough(protocol, readings, slots) {
         load_and_play(protocol, provider, readings, slots)
@@ -157,10 +157,10 @@ pub fn run<P: Provider>(
     readings: &mut [Handle],
     slots: &mut [Handle],
 ) -> Result<Played, RunFault>
-    ensures whole { Ran algebra meaning (listed protocol.now.content.terms) (lines_of protocol.now.content) (steps_of protocol.now.content) provider.old readings.old slots.old result provider.new readings.new slots.new }
+    ensures whole { Ran P.algebra P.meaning (listed protocol.now.content.terms) (lines_of protocol.now.content) (steps_of protocol.now.content) provider.old readings.old slots.old result provider.new readings.new slots.new }
     ensures memory { (Enough (listed protocol.now.content.terms) (lines_of protocol.now.content) readings.old slots.old → ⊥) → Refused provider.old readings.old slots.old result provider.new readings.new slots.new }
-    ensures keeps { RestKept meaning (listed protocol.now.content.terms) (lines_of protocol.now.content) provider.old readings.old slots.old provider.new readings.new slots.new }
-    ensures law { RunLaw algebra meaning (listed protocol.now.content.terms) (lines_of protocol.now.content) (steps_of protocol.now.content) readings.old slots.old result provider.new readings.new slots.new }
+    ensures keeps { RestKept P.meaning (listed protocol.now.content.terms) (lines_of protocol.now.content) provider.old readings.old slots.old provider.new readings.new slots.new }
+    ensures law { RunLaw P.algebra P.meaning (listed protocol.now.content.terms) (lines_of protocol.now.content) (steps_of protocol.now.content) readings.old slots.old result provider.new readings.new slots.new }
 {
     try_run(protocol, provider, readings, slots)
 }

@@ -135,7 +135,7 @@ pub(crate) fn perform<P: Provider>(
     slots: &mut [Handle],
     task: Task,
 ) -> Result<usize, RunFault>
-    ensures whole { Does algebra meaning (listed protocol.now.content.terms) (lines_of protocol.now.content) readings.now task provider.old slots.old result provider.new slots.new }
+    ensures whole { Does P.algebra P.meaning (listed protocol.now.content.terms) (lines_of protocol.now.content) readings.now task provider.old slots.old result provider.new slots.new }
     ensures few { IfOk result (λ n. n ≤ 512) }
 {
     let part = part_of(protocol, readings, slots, task.role);

@@ -11,7 +11,7 @@ pub fn load<P: Provider>(
     provider: &mut P,
     readings: &mut [Handle],
 ) -> Result<usize, SessionRefusal>
-    ensures { Loaded algebra meaning protocol.now provider.old readings.old result provider.new readings.new }
+    ensures { Loaded P.algebra P.meaning protocol.now provider.old readings.old result provider.new readings.new }
 {
     let terms = protocol.terms();
     let count = terms.len();

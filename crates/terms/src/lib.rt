@@ -4,6 +4,9 @@
 // model, different numbers for different terms, and it does so for good: a table only grows, and a refused call leaves it
 // as it was. Composability is judged for all numbers in one pass, from the lowest up, so shared parts cost nothing.
 // Every public function is total, and its contract says the whole outcome.
+
+#![tactic(auto)]
+
 pub mod node;
 pub mod table;
 pub mod theorems;

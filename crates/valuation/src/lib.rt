@@ -3,23 +3,26 @@
 // The crate promises, on every provider: a well_formed term has a value, and the instructions of a fitting script make the
 // values of their slots' terms. And of every protocol: its terms are well_formed and its scripts fit. Nothing here computes:
 // each function carries one theorem in its contract.
+
+#![tactic(auto)]
+
 ghost use Rattle.valuation.specs.Law.{FormedHasValue, SlotValues, TermsHaveValues, TermsSettled, ScriptsFit};
 
 use provider::Provider;
 
 // A well_formed term has a value on every provider, and a key's value has a mate.
 pub fn well_formed_terms_have_values<P: Provider>(_provider: &P)
-    ensures { FormedHasValue algebra }
+    ensures { FormedHasValue P.algebra }
 {}
 
 // On every provider the instructions of a fitting script make the values of their slots' terms.
 pub fn slots_stand_for_their_terms<P: Provider>(_provider: &P)
-    ensures { SlotValues proper algebra }
+    ensures { SlotValues P.proper P.algebra }
 {}
 
 // Every term of every protocol has a value on every provider.
 pub fn every_term_has_a_value<P: Provider>(_provider: &P)
-    ensures { TermsHaveValues algebra }
+    ensures { TermsHaveValues P.algebra }
 {}
 
 // The terms of every protocol are settled: well_formed, and their parts among them.

@@ -11,4 +11,4 @@ returns-in-err-opener g c =
 pub returns : goal.returns
 returns g c =
     let p = g.P.Provider in
-    at_opening p.proper p.algebra p.meaning g.met.P.Provider.seals g.met.P.Provider.holds c.in-ok-sealed.ensures c.in-ok-opener.ensures c.open.result c.open.ensures
+    at_opening p.proper p.algebra p.meaning g.met.P.Provider.seals g.met.P.Provider.holds c.in_ok-sealed.ensures c.in_ok-opener.ensures c.open.result c.open.ensures

@@ -21,7 +21,7 @@ impl Session {
         slots: &mut [Handle],
         work: Work,
     ) -> Result<usize, Halt>
-        ensures { Carried algebra meaning readings.now (written script.now) work self.old provider.old slots.old result self.new provider.new slots.new }
+        ensures { Carried P.algebra P.meaning readings.now (written script.now) work self.old provider.old slots.old result self.new provider.new slots.new }
     {
         let sames = carry_out(
             provider, readings, slots, 0, script, work.start, work.end, work.part,
@@ -38,7 +38,7 @@ impl Session {
         readings: &[Handle],
         slots: &mut [Handle],
     ) -> Result<usize, SessionRefusal>
-        ensures { Starts algebra meaning protocol.now readings.now self.old provider.old slots.old result self.new provider.new slots.new }
+        ensures { Starts P.algebra P.meaning protocol.now readings.now self.old provider.old slots.old result self.new provider.new slots.new }
     {
         let script = self.ready(protocol, readings.len(), slots.len())?;
         let work = self.starting(protocol)?;
@@ -56,7 +56,7 @@ impl Session {
         readings: &[Handle],
         slots: &mut [Handle],
     ) -> Result<(Handle, Handle), SessionRefusal>
-        ensures { Sends algebra meaning protocol.now readings.now self.old provider.old slots.old result self.new provider.new slots.new }
+        ensures { Sends P.algebra P.meaning protocol.now readings.now self.old provider.old slots.old result self.new provider.new slots.new }
     {
         let script = self.ready(protocol, readings.len(), slots.len())?;
         let work = self.sending(protocol)?;
@@ -77,7 +77,7 @@ impl Session {
         from: Handle,
         message: Handle,
     ) -> Result<usize, SessionRefusal>
-        ensures { Receives algebra meaning protocol.now readings.now from message self.old provider.old slots.old result self.new provider.new slots.new }
+        ensures { Receives P.algebra P.meaning protocol.now readings.now from message self.old provider.old slots.old result self.new provider.new slots.new }
     {
         let script = self.ready(protocol, readings.len(), slots.len())?;
         let work = self.receiving(protocol, from, message)?;
