@@ -2,11 +2,11 @@ use Rattle.std.proofs.lemmas.Result.{err_from_is_err_and}
 use Rattle.provider.proofs.Reopening.{at_mate, at_opening}
 use Rattle.provider.proofs.round_trip.Goals as goal
 
-pub returns-in-err-opener : goal.returns-in-err-opener
-returns-in-err-opener g c =
+pub returns-in_err-opener : goal.returns-in_err-opener
+returns-in_err-opener g c =
     let p = g.P.Provider in
-    let q = err_from_is_err_and c.from-residual-in-err-opener.result c.from-residual-in-err-opener.ensures.1 in
-    rw (q.1, q.2) (at_mate p.proper p.algebra p.meaning g.met.P.Provider.seals g.met.P.Provider.holds c.in-ok-sealed.ensures c.in-err-opener.field-0.0 c.in-err-opener.ensures)
+    let q = err_from_is_err_and c.from_residual-in_err-opener.result c.from_residual-in_err-opener.ensures.1 in
+    rw (q.1, q.2) (at_mate p.proper p.algebra p.meaning g.met.P.Provider.seals g.met.P.Provider.holds c.in_ok-sealed.ensures c.in_err-opener.field-0.0 c.in_err-opener.ensures)
 
 pub returns : goal.returns
 returns g c =

@@ -9,7 +9,7 @@ returns g c =
     let p = g.P.Provider in
     let q = g.met.P.Provider in
     let t = c.args.terms.now in
-    let d = c.load-terms in
+    let d = c.load_terms in
     let law : Lawful p.proper p.algebra = record { halves = q.halves; mates = q.mates; seals = q.seals; builds = q.builds } in
     record {
       whole = d.ensures;

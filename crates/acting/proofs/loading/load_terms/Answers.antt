@@ -9,13 +9,13 @@ use Rattle.acting.proofs.loading.load_terms.Goals as goal
 pub loop-term-init : goal.loop-term-init
 loop-term-init g c = λ r s' hs' a. a
 
-pub returns-in-default : goal.returns-in-default
-returns-in-default g c =
+pub returns-in_default : goal.returns-in_default
+returns-in_default g c =
     let p = g.P.Provider in
     let ts = listed c.args.terms.now in
     let end = length c.args.readings.now in
     rest_out p.algebra p.meaning node_act one itself ts end c.loop-term.term c.loop-term.term c.loop-term.provider c.loop-term.readings
-    (take end ts) 0 c.args.provider.now c.args.readings.now c.loop-term.invariant None (sym (nth_past ts c.loop-term.term c.in-default.ensures.reads)) refl
+    (take end ts) 0 c.args.provider.now c.args.readings.now c.loop-term.invariant None (sym (nth_past ts c.loop-term.term c.in_default.ensures.reads)) refl
 
 pub returns-in-Err : goal.returns-in-Err
 returns-in-Err g c =

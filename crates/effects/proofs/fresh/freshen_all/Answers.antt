@@ -8,16 +8,16 @@ use Rattle.effects.proofs.fresh.freshen_all.Goals.{then-fresh-name+in-ok-freshen
 pub loop-name-init : goal.loop-name-init
 loop-name-init c = λ k m. (k, freshen_start (listed c.args.terms.now) c.args.fresh.now c.args.script.now)
 
-pub returns-in-err-freshen : goal.returns-in-err-freshen
-returns-in-err-freshen c =
+pub returns-in_err-freshen : goal.returns-in_err-freshen
+returns-in_err-freshen c =
     let ts = listed c.args.terms.now in
     let i = c.loop-name.name in
     let li : i < length ts = omega (arith, c.loop-name-test.true, c.len-name-end.ensures.is) in
-    let q = err_from_is_err_and c.from-residual.result c.from-residual.ensures.1 in
+    let q = err_from_is_err_and c.from_residual.result c.from_residual.ensures.1 in
     λ k m.
     let inv = c.loop-name.invariant k m in
-    rw (q.1, q.2) (freshened_stop ts c.args.fresh.now i li _ c.loop-name.script inv.1 c.freshen.new.script c.in-err-freshen.field-0.0 c.if-fresh-name.true
-    (c.in-err-freshen.ensures li (m i li c.if-fresh-name.true) inv.0))
+    rw (q.1, q.2) (freshened_stop ts c.args.fresh.now i li _ c.loop-name.script inv.1 c.freshen.new.script c.in_err-freshen.field-0.0 c.if-fresh-name.true
+    (c.in_err-freshen.ensures li (m i li c.if-fresh-name.true) inv.0))
 
 pub loop-name-preserved : goal.loop-name-preserved
 loop-name-preserved c =
@@ -29,7 +29,7 @@ loop-name-preserved c =
     let inv = c.loop-name.invariant k m in
     elim c.if-fresh-name.branch [
       | then-fresh-name+in-ok-freshen w ↦
-          let d = w.in-ok-freshen.ensures li (m i li w.if-fresh-name.true) inv.0 in
+          let d = w.in_ok-freshen.ensures li (m i li w.if-fresh-name.true) inv.0 in
           rw w.script-is (d.1, freshened ts f i li _ c.loop-name.script inv.1 w.freshen.new.script w.if-fresh-name.true d.0)
       | else-fresh-name w ↦ rw w.script-is (inv.0, passed ts f i li _ c.loop-name.script inv.1 w.if-fresh-name.false)
     ]

@@ -11,9 +11,9 @@ pub loop-term-preserved : goal.loop-term-preserved
 loop-term-preserved c =
     let i = c.loop-term.term in
     let l : i < 512 = omega (arith, c.loop-term-test.true, c.len-term-end.ensures.few) in
-    elim c.if-comes-fresh.branch [
-      | then-comes-fresh w ↦ rw w.marks-is (marked_next _ c.args.marks.now c.loop-term.marks i l c.loop-term.invariant (sym c.comes-fresh.ensures ∙ w.if-comes-fresh.true))
-      | else-comes-fresh w ↦ rw w.marks-is (passed_next _ c.args.marks.now c.loop-term.marks i l c.loop-term.invariant (sym c.comes-fresh.ensures ∙ w.if-comes-fresh.false))
+    elim c.if-comes_fresh.branch [
+      | then-comes-fresh w ↦ rw w.marks-is (marked_next _ c.args.marks.now c.loop-term.marks i l c.loop-term.invariant (sym c.comes_fresh.ensures ∙ w.if-comes_fresh.true))
+      | else-comes-fresh w ↦ rw w.marks-is (passed_next _ c.args.marks.now c.loop-term.marks i l c.loop-term.invariant (sym c.comes_fresh.ensures ∙ w.if-comes_fresh.false))
     ]
 
 pub returns : goal.returns

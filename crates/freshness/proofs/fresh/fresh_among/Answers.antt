@@ -9,6 +9,6 @@ pub loop-term-preserved : goal.loop-term-preserved
 loop-term-preserved c =
     let w =
     judged_more (λ i. can_be_fresh (node_at (listed c.args.terms.now) i) && (get_or c.args.sent.now i false && not (get_or c.args.used.now i false)))
-    c.loop-term.fresh c.loop-term.term c.is-fresh-at.result
-    (omega (arith, c.loop-term.invariant.2)) c.loop-term.invariant.0 c.loop-term.invariant.1 c.is-fresh-at.ensures in
+    c.loop-term.fresh c.loop-term.term c.is_fresh_at.result
+    (omega (arith, c.loop-term.invariant.2)) c.loop-term.invariant.0 c.loop-term.invariant.1 c.is_fresh_at.ensures in
     (w.0, w.1, w.2 ∙ c.loop-term.invariant.2)

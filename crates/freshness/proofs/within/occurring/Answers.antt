@@ -11,7 +11,7 @@ loop-term-preserved-in-loop-term c =
     passed_on (listed t) c.args.marks.now (orderly t) (listed_few t) c.loop-term.occurring c.loop-term.term _
     (omega arith) (omega arith) c.loop-term.invariant
     (elim c.then-marks-term.branch [ then-marks-term-via-then-marks-term w ↦ inl w.if-marks-term.true | then-marks-term-via-else-marks-term+then-occurring-term w ↦ inr w.if-occurring-term.true ])
-    c.mark-whole.new.marks c.mark-whole.ensures
+    c.mark_whole.new.marks c.mark_whole.ensures
 
 pub loop-term-preserved : goal.loop-term-preserved
 loop-term-preserved c =

@@ -11,15 +11,15 @@ returns g c =
     let s2 = c.reopen.new.provider in
     let s3 = c.seal.new.self in
     let s4 = c.open.new.self in
-    let plan = c.in-ok-plan.plan in
-    let key = c.in-ok-key.key in
-    let again = c.in-ok-again.again in
-    let sealed = c.in-ok-sealed.sealed in
-    let opened = c.in-ok-opened.opened in
-    let ek : stands (p.meaning s1).issued key ≡ Some (p.algebra.atom 2 7) = c.in-ok-key.ensures.answer in
-    let re = c.in-ok-again.ensures in
-    let se = c.in-ok-sealed.ensures in
-    let op = c.in-ok-opened.ensures in (
+    let plan = c.in_ok-plan.plan in
+    let key = c.in_ok-key.key in
+    let again = c.in_ok-again.again in
+    let sealed = c.in_ok-sealed.sealed in
+    let opened = c.in_ok-opened.opened in
+    let ek : stands (p.meaning s1).issued key ≡ Some (p.algebra.atom 2 7) = c.in_ok-key.ensures.answer in
+    let re = c.in_ok-again.ensures in
+    let se = c.in_ok-sealed.ensures in
+    let op = c.in_ok-opened.ensures in (
       opens_again p.proper p.algebra p.meaning met.mates met.seals met.holds s1 s2 s3 s4 plan key again sealed opened 7 (lit≤ tt) ek re se op c.same-tried.result c.same-tried.ensures,
       arrives p.proper p.algebra p.meaning met.mates met.seals met.holds s1 s2 s3 s4 plan key again sealed opened 7 (lit≤ tt) ek re se op c.same-arrived.result c.same-arrived.ensures,
     )

@@ -7,26 +7,26 @@ use Rattle.runs.specs.Tasks.{start_tasks, step_tasks}
 use Rattle.runs.proofs.Rests.{tasks_then, tasks_stop}
 use Rattle.runs.proofs.playing.play_all.Goals as goal
 
-pub returns-in-err-started : goal.returns-in-err-started
-returns-in-err-started g c =
+pub returns-in_err-started : goal.returns-in_err-started
+returns-in_err-started g c =
     let p = g.P.Provider in
     let a = c.args in
     let k = a.protocol.now.content in
-    let q = err_from_is_err_and c.from-residual.result c.from-residual.ensures.1 in
+    let q = err_from_is_err_and c.from_residual.result c.from_residual.ensures.1 in
     rw (q.1, q.2)
     (tasks_stop p.algebra p.meaning (listed k.terms) (lines_of k) a.readings.now (start_tasks (view_of a.protocol.now) (length (lines_of k))) (step_tasks 0 (steps_of k))
-    a.provider.now a.slots.now c.in-err-started.field-0.0 c.start-parties.new.provider c.start-parties.new.slots c.in-err-started.ensures.whole)
+    a.provider.now a.slots.now c.in_err-started.field-0.0 c.start_parties.new.provider c.start_parties.new.slots c.in_err-started.ensures.whole)
 
-pub returns-in-err-played : goal.returns-in-err-played
-returns-in-err-played g c =
+pub returns-in_err-played : goal.returns-in_err-played
+returns-in_err-played g c =
     let p = g.P.Provider in
     let a = c.args in
     let k = a.protocol.now.content in
-    let q = err_from_is_err_and c.from-residual-in-err-played.result c.from-residual-in-err-played.ensures.1 in
+    let q = err_from_is_err_and c.from_residual-in_err-played.result c.from_residual-in_err-played.ensures.1 in
     rw (q.1, q.2)
     (tasks_then p.algebra p.meaning (listed k.terms) (lines_of k) a.readings.now (start_tasks (view_of a.protocol.now) (length (lines_of k))) (step_tasks 0 (steps_of k))
-    a.provider.now a.slots.now c.in-ok-started.started c.start-parties.new.provider c.start-parties.new.slots
-    (Err c.in-err-played.field-0.0) c.play-steps.new.provider c.play-steps.new.slots c.in-ok-started.ensures.whole c.in-err-played.ensures.whole)
+    a.provider.now a.slots.now c.in_ok-started.started c.start_parties.new.provider c.start_parties.new.slots
+    (Err c.in_err-played.field-0.0) c.play_steps.new.provider c.play_steps.new.slots c.in_ok-started.ensures.whole c.in_err-played.ensures.whole)
 
 pub returns : goal.returns
 returns g c =
@@ -34,5 +34,5 @@ returns g c =
     let a = c.args in
     let k = a.protocol.now.content in
     tasks_then p.algebra p.meaning (listed k.terms) (lines_of k) a.readings.now (start_tasks (view_of a.protocol.now) (length (lines_of k))) (step_tasks 0 (steps_of k))
-    a.provider.now a.slots.now c.in-ok-started.started c.start-parties.new.provider c.start-parties.new.slots
-    (Ok c.in-ok-played.played) c.play-steps.new.provider c.play-steps.new.slots c.in-ok-started.ensures.whole c.in-ok-played.ensures.whole
+    a.provider.now a.slots.now c.in_ok-started.started c.start_parties.new.provider c.start_parties.new.slots
+    (Ok c.in_ok-played.played) c.play_steps.new.provider c.play_steps.new.slots c.in_ok-started.ensures.whole c.in_ok-played.ensures.whole

@@ -15,38 +15,38 @@ loop-number-init g c =
     let k = a.protocol.now.content in
     (omega arith, rest_all p.algebra p.meaning (listed k.terms) (lines_of k) a.readings.now (step_tasks 0 (steps_of k)) (step_tasks 0 (steps_of k)) a.provider.now a.slots.now refl)
 
-pub returns-in-default : goal.returns-in-default
-returns-in-default g c =
+pub returns-in_default : goal.returns-in_default
+returns-in_default g c =
     let p = g.P.Provider in
     let a = c.args in
     let k = a.protocol.now.content in
     let i = c.loop-number.number in
     record {
       whole = rest_end p.algebra p.meaning (listed k.terms) (lines_of k) a.readings.now (step_tasks 0 (steps_of k)) a.provider.now a.slots.now (step_tasks i (drop i (steps_of k)))
-          c.loop-number.sames c.loop-number.provider c.loop-number.slots (steps_none (steps_of k) i c.step.result c.step.ensures c.in-default.is) c.loop-number.invariant.1;
+          c.loop-number.sames c.loop-number.provider c.loop-number.slots (steps_none (steps_of k) i c.step.result c.step.ensures c.in_default.is) c.loop-number.invariant.1;
       few = omega (arith, c.loop-number.invariant.0, c.loop-number-test.true, c.steps-number-end.ensures, steps_length k (sound a.protocol.now), a.protocol.now.steps_few);
     }
 
-pub returns-in-err-sames : goal.returns-in-err-sames
-returns-in-err-sames g c =
+pub returns-in_err-sames : goal.returns-in_err-sames
+returns-in_err-sames g c =
     let p = g.P.Provider in
     let a = c.args in
     let k = a.protocol.now.content in
     let i = c.loop-number.number in
     let x = c.in-Some.step in
-    let q = err_from_is_err_and c.from-residual.result c.from-residual.ensures.1 in
+    let q = err_from_is_err_and c.from_residual.result c.from_residual.ensures.1 in
     rw (q.1, q.2) (record {
       whole = rest_stop p.algebra p.meaning (listed k.terms) (lines_of k) a.readings.now (step_tasks 0 (steps_of k)) a.provider.now a.slots.now (both_tasks i x) (step_tasks (i + 1) (drop (i + 1) (steps_of k))) (step_tasks i (drop i (steps_of k)))
           c.loop-number.sames c.loop-number.provider c.loop-number.slots (steps_more (steps_of k) i x c.step.result c.step.ensures c.in-Some.is) c.loop-number.invariant.1
-          c.in-err-sames.field-0.0 c.play-step.new.provider c.play-step.new.slots c.in-err-sames.ensures.whole;
+          c.in_err-sames.field-0.0 c.play_step.new.provider c.play_step.new.slots c.in_err-sames.ensures.whole;
       few = tt;
     })
 
-pub overflow-add-sames : goal.overflow-add-sames
-overflow-add-sames g c =
+pub overflow_add-sames : goal.overflow_add-sames
+overflow_add-sames g c =
     let k = c.args.protocol.now.content in
-    let h : c.loop-number.sames + c.in-ok-sames.field-0 ≤ 100000 =
-    omega (arith, c.loop-number.invariant.0, c.in-ok-sames.ensures.few, c.loop-number-test.true, c.steps-number-end.ensures, steps_length k (sound c.args.protocol.now), c.args.protocol.now.steps_few) in
+    let h : c.loop-number.sames + c.in_ok-sames.field-0 ≤ 100000 =
+    omega (arith, c.loop-number.invariant.0, c.in_ok-sames.ensures.few, c.loop-number-test.true, c.steps-number-end.ensures, steps_length k (sound c.args.protocol.now), c.args.protocol.now.steps_few) in
     search rules
 
 pub loop-number-preserved : goal.loop-number-preserved
@@ -56,10 +56,10 @@ loop-number-preserved g c =
     let k = a.protocol.now.content in
     let i = c.loop-number.number in
     let x = c.in-Some.step in (
-      omega (arith, c.loop-number.invariant.0, c.in-ok-sames.ensures.few),
+      omega (arith, c.loop-number.invariant.0, c.in_ok-sames.ensures.few),
       rest_more p.algebra p.meaning (listed k.terms) (lines_of k) a.readings.now (step_tasks 0 (steps_of k)) a.provider.now a.slots.now (both_tasks i x) (step_tasks (i + 1) (drop (i + 1) (steps_of k))) (step_tasks i (drop i (steps_of k)))
           c.loop-number.sames c.loop-number.provider c.loop-number.slots (steps_more (steps_of k) i x c.step.result c.step.ensures c.in-Some.is) c.loop-number.invariant.1
-          c.in-ok-sames.field-0 c.play-step.new.provider c.play-step.new.slots c.in-ok-sames.ensures.whole,
+          c.in_ok-sames.field-0 c.play_step.new.provider c.play_step.new.slots c.in_ok-sames.ensures.whole,
     )
 
 pub returns : goal.returns

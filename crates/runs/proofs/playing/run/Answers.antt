@@ -13,7 +13,7 @@ returns g c =
     let p = g.P.Provider in
     let q = g.met.P.Provider in
     let a = c.args in
-    let d = c.try-run in
+    let d = c.try_run in
     let k = a.protocol.now.content in
     let n = length (listed k.terms) in
     let law : Lawful p.proper p.algebra = record { halves = q.halves; mates = q.mates; seals = q.seals; builds = q.builds } in

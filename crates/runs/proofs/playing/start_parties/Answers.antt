@@ -17,27 +17,27 @@ loop-party-init g c =
     let all = start_tasks (view_of a.protocol.now) (length (lines_of k)) in
     (omega arith, omega arith, rest_all p.algebra p.meaning (listed k.terms) (lines_of k) a.readings.now all all a.provider.now a.slots.now refl)
 
-pub returns-in-err-sames : goal.returns-in-err-sames
-returns-in-err-sames g c =
+pub returns-in_err-sames : goal.returns-in_err-sames
+returns-in_err-sames g c =
     let p = g.P.Provider in
     let a = c.args in
     let k = a.protocol.now.content in
     let st = view_of a.protocol.now in
     let n = length (lines_of k) in
     let i = c.loop-party.party in
-    let q = err_from_is_err_and c.from-residual.result c.from-residual.ensures.1 in
+    let q = err_from_is_err_and c.from_residual.result c.from_residual.ensures.1 in
     let below : i < n = omega (arith, c.loop-party-test.true, c.agents-party-end.ensures) in
     rw (q.1, q.2) (record {
       whole = rest_stop p.algebra p.meaning (listed k.terms) (lines_of k) a.readings.now (start_tasks st n) a.provider.now a.slots.now (start_task st i ∷ []) (starts_from st (i + 1) (n - (i + 1))) (starts_from st i (n - i))
-          c.loop-party.sames c.loop-party.provider c.loop-party.slots (starts_more st n i below) c.loop-party.invariant.2 c.in-err-sames.field-0.0 c.perform.new.provider c.perform.new.slots
-          (one_stop p.algebra p.meaning (listed k.terms) (lines_of k) a.readings.now c.start-task.result (start_task st i) c.loop-party.provider c.loop-party.slots c.in-err-sames.field-0.0 c.perform.new.provider c.perform.new.slots
-          c.start-task.ensures c.in-err-sames.ensures.whole);
+          c.loop-party.sames c.loop-party.provider c.loop-party.slots (starts_more st n i below) c.loop-party.invariant.2 c.in_err-sames.field-0.0 c.perform.new.provider c.perform.new.slots
+          (one_stop p.algebra p.meaning (listed k.terms) (lines_of k) a.readings.now c.start_task.result (start_task st i) c.loop-party.provider c.loop-party.slots c.in_err-sames.field-0.0 c.perform.new.provider c.perform.new.slots
+          c.start_task.ensures c.in_err-sames.ensures.whole);
       few = tt;
     })
 
-pub overflow-add-sames : goal.overflow-add-sames
-overflow-add-sames g c =
-    let h : c.loop-party.sames + c.in-ok-sames.field-0 ≤ 5000 = omega (arith, c.loop-party.invariant.0, c.loop-party.invariant.1, c.in-ok-sames.ensures.few) in
+pub overflow_add-sames : goal.overflow_add-sames
+overflow_add-sames g c =
+    let h : c.loop-party.sames + c.in_ok-sames.field-0 ≤ 5000 = omega (arith, c.loop-party.invariant.0, c.loop-party.invariant.1, c.in_ok-sames.ensures.few) in
     search rules
 
 pub loop-party-preserved : goal.loop-party-preserved
@@ -50,11 +50,11 @@ loop-party-preserved g c =
     let i = c.loop-party.party in
     let below : i < n = omega (arith, c.loop-party-test.true, c.agents-party-end.ensures) in (
       omega (arith, agents_length k (sound a.protocol.now), a.protocol.now.agents_few, c.loop-party-test.true, c.agents-party-end.ensures),
-      omega (arith, c.loop-party.invariant.1, c.in-ok-sames.ensures.few),
+      omega (arith, c.loop-party.invariant.1, c.in_ok-sames.ensures.few),
       rest_more p.algebra p.meaning (listed k.terms) (lines_of k) a.readings.now (start_tasks st n) a.provider.now a.slots.now (start_task st i ∷ []) (starts_from st (i + 1) (n - (i + 1))) (starts_from st i (n - i))
-          c.loop-party.sames c.loop-party.provider c.loop-party.slots (starts_more st n i below) c.loop-party.invariant.2 c.in-ok-sames.field-0 c.perform.new.provider c.perform.new.slots
-          (one_done p.algebra p.meaning (listed k.terms) (lines_of k) a.readings.now c.start-task.result (start_task st i) c.loop-party.provider c.loop-party.slots c.in-ok-sames.field-0 c.perform.new.provider c.perform.new.slots
-          c.start-task.ensures c.in-ok-sames.ensures.whole),
+          c.loop-party.sames c.loop-party.provider c.loop-party.slots (starts_more st n i below) c.loop-party.invariant.2 c.in_ok-sames.field-0 c.perform.new.provider c.perform.new.slots
+          (one_done p.algebra p.meaning (listed k.terms) (lines_of k) a.readings.now c.start_task.result (start_task st i) c.loop-party.provider c.loop-party.slots c.in_ok-sames.field-0 c.perform.new.provider c.perform.new.slots
+          c.start_task.ensures c.in_ok-sames.ensures.whole),
     )
 
 pub returns : goal.returns

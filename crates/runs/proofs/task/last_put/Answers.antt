@@ -9,5 +9,5 @@ pub returns-else-base-slots : goal.returns-else-base-slots
 returns-else-base-slots c =
     let base = base_of (lines_of c.args.protocol.now.content) c.args.party in
     let h : length c.args.slots.now ≤ base + (c.args.done - 1) =
-    elim c.else-base-slots.branch [ else-base-slots-via-then-base-slots+else-last-slots w ↦ omega (arith, w.if-base-slots.true, w.if-last-slots.false, c.base-of-base.ensures, c.saturating-sub-last.ensures) | else-base-slots-via-else-base-slots w ↦ omega (arith, w.if-base-slots.false, c.base-of-base.ensures) ] in
+    elim c.else-base-slots.branch [ else-base-slots-via-then-base-slots+else-last-slots w ↦ omega (arith, w.if-base-slots.true, w.if-last-slots.false, c.base_of-base.ensures, c.saturating_sub-last.ensures) | else-base-slots-via-else-base-slots w ↦ omega (arith, w.if-base-slots.false, c.base_of-base.ensures) ] in
     sym (get_or_past c.args.slots.now (base + (c.args.done - 1)) 0 h)

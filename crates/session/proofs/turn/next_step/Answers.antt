@@ -6,16 +6,16 @@ use Rattle.session.proofs.Next.{next_here, next_later, next_none, next_past}
 use Rattle.session.proofs.Lowest.{next_is}
 use Rattle.session.proofs.turn.next_step.Goals as goal
 
-pub returns-in-err-step : goal.returns-in-err-step
-returns-in-err-step c =
+pub returns-in_err-step : goal.returns-in_err-step
+returns-in_err-step c =
     let xs = steps_of c.args.protocol.now.content in
-    let e = next_none xs c.args.from c.loop-number.number c.args.party c.loop-number.invariant c.in-err-step.ensures in
-    rw c.from-residual.ensures record { is = e; lowest = next_is xs c.args.from c.args.party _ e; few = tt }
+    let e = next_none xs c.args.from c.loop-number.number c.args.party c.loop-number.invariant c.in_err-step.ensures in
+    rw c.from_residual.ensures record { is = e; lowest = next_is xs c.args.from c.args.party _ e; few = tt }
 
-pub returns-then-takes-part : goal.returns-then-takes-part
-returns-then-takes-part c =
+pub returns-then-takes_part : goal.returns-then-takes_part
+returns-then-takes_part c =
     let p = c.args.protocol.now in
-    let e = next_here (steps_of p.content) c.args.from c.loop-number.number c.args.party c.loop-number.invariant c.in-ok-step.step c.in-ok-step.ensures c.if-takes-part.ensures in
+    let e = next_here (steps_of p.content) c.args.from c.loop-number.number c.args.party c.loop-number.invariant c.in_ok-step.step c.in_ok-step.ensures c.if-takes_part.ensures in
     record {
       is = e;
       lowest = next_is (steps_of p.content) c.args.from c.args.party _ e;
@@ -24,7 +24,7 @@ returns-then-takes-part c =
 
 pub loop-number-preserved : goal.loop-number-preserved
 loop-number-preserved c =
-    next_later (steps_of c.args.protocol.now.content) c.args.from c.loop-number.number c.args.party c.loop-number.invariant c.in-ok-step.step c.in-ok-step.ensures c.if-takes-part.ensures
+    next_later (steps_of c.args.protocol.now.content) c.args.from c.loop-number.number c.args.party c.loop-number.invariant c.in_ok-step.step c.in_ok-step.ensures c.if-takes_part.ensures
 
 pub returns : goal.returns
 returns c =

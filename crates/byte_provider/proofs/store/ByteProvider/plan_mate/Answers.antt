@@ -3,5 +3,5 @@ use Rattle.byte_provider.proofs.store.ByteProvider.plan_mate.Goals as goal
 
 pub returns : goal.returns
 returns c =
-    mate_plan c.args.self.now c.args.key c.in-ok-key.key c.body.result c.in-ok-kind.kind c.in-ok-key.ensures c.in-ok-kind.ensures c.body.ensures
+    mate_plan c.args.self.now c.args.key c.in_ok-key.key c.body.result c.in_ok-kind.kind c.in_ok-key.ensures c.in_ok-kind.ensures c.body.ensures
     c.mate_first.result c.mate_first.ensures c.mate_first.type-inv c.none.result c.none.ensures

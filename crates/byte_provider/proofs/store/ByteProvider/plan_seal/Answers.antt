@@ -6,5 +6,5 @@ use Rattle.byte_provider.proofs.store.ByteProvider.plan_seal.Goals as goal
 
 pub returns : goal.returns
 returns c =
-    shift_plan c.args.self.now c.args.key c.in-ok-key.key c.body.result c.in-ok-kind.kind c.in-ok-key.ensures c.in-ok-kind.ensures c.body.ensures
-    (Seal c.args.content c.args.key) sealing c.args.content c.in-ok-content.content c.sealing.result refl (λ _. refl) c.in-ok-content.ensures c.sealing.ensures
+    shift_plan c.args.self.now c.args.key c.in_ok-key.key c.body.result c.in_ok-kind.kind c.in_ok-key.ensures c.in_ok-kind.ensures c.body.ensures
+    (Seal c.args.content c.args.key) sealing c.args.content c.in_ok-content.content c.sealing.result refl (λ _. refl) c.in_ok-content.ensures c.sealing.ensures

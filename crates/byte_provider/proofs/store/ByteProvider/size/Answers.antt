@@ -3,15 +3,15 @@ use Rattle.byte_provider.specs.State.{bytes_of}
 use Rattle.byte_provider.proofs.Storing.{copied_size, shifted_size, copied_bounds}
 use Rattle.byte_provider.proofs.store.ByteProvider.size.Goals as goal
 
-pub overflow-add-result : goal.overflow-add-result
-overflow-add-result c =
+pub overflow_add-result : goal.overflow_add-result
+overflow_add-result c =
     let s = c.args.self.now in
     let v = c.in-Copied in
     let b = copied_bounds (bytes_of s) c.args.plan c.requires v.head v.first v.second v.is in
     omega (arith, b.0, s.fits, length-take s.table.used s.table.bytes, c.len.ensures.1)
 
-pub overflow-add-result-in-Copied : goal.overflow-add-result-in-Copied
-overflow-add-result-in-Copied c =
+pub overflow_add-result-in-Copied : goal.overflow_add-result-in-Copied
+overflow_add-result-in-Copied c =
     let s = c.args.self.now in
     let v = c.in-Copied in
     let b = copied_bounds (bytes_of s) c.args.plan c.requires v.head v.first v.second v.is in

@@ -13,8 +13,8 @@ write-span-requires c =
     let r = room_is s c.args.plan c.requires.1 in
     (c.requires.0, omega (arith, r.1, s.fits, s.filled))
 
-pub invariant-of-self : goal.invariant-of-self
-invariant-of-self c =
+pub invariant_of-self : goal.invariant_of-self
+invariant_of-self c =
     let s = c.args.self.now in
     let t = c.write-span.new.self in
     let w = c.write-span.ensures in

@@ -4,11 +4,11 @@ use Rattle.byte_provider.specs.Parts.{part_done}
 use Rattle.byte_provider.proofs.Loops.{equal_more, differ}
 use Rattle.byte_provider.proofs.table.Table.equal.Goals as goal
 
-pub overflow-add-a : goal.overflow-add-a
-overflow-add-a c = let t = c.args.self.now in omega (arith, c.requires.0, c.requires.1.0, length-take t.used t.bytes)
+pub overflow_add-a : goal.overflow_add-a
+overflow_add-a c = let t = c.args.self.now in omega (arith, c.requires.0, c.requires.1.0, length-take t.used t.bytes)
 
-pub overflow-add-b : goal.overflow-add-b
-overflow-add-b c = let t = c.args.self.now in omega (arith, c.requires.0, c.requires.1.1.0, c.requires.1.1.1, length-take t.used t.bytes)
+pub overflow_add-b : goal.overflow_add-b
+overflow_add-b c = let t = c.args.self.now in omega (arith, c.requires.0, c.requires.1.1.0, c.requires.1.1.1, length-take t.used t.bytes)
 
 pub returns-then-read : goal.returns-then-read
 returns-then-read c =

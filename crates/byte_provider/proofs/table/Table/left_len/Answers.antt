@@ -6,8 +6,8 @@ use Rattle.byte_provider.proofs.table.Table.left_len.Goals as goal
 pub returns-then-pair-lt2 : goal.returns-then-pair-lt2
 returns-then-pair-lt2 c = left_of_short (held c.args.self.now) c.args.pair c.requires.1 c.if-pair-lt2.true
 
-pub overflow-add-pair : goal.overflow-add-pair
-overflow-add-pair c = let t = c.args.self.now in omega (arith, length-take t.used t.bytes)
+pub overflow_add-pair : goal.overflow_add-pair
+overflow_add-pair c = let t = c.args.self.now in omega (arith, length-take t.used t.bytes)
 
 pub returns-then-n-pair : goal.returns-then-n-pair
 returns-then-n-pair c =

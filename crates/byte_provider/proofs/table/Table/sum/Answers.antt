@@ -5,8 +5,8 @@ use Rattle.byte_provider.specs.Parts.{part_done}
 use Rattle.byte_provider.proofs.Loops.{sum_more}
 use Rattle.byte_provider.proofs.table.Table.sum.Goals as goal
 
-pub overflow-add-span : goal.overflow-add-span
-overflow-add-span c = let t = c.args.self.now in omega (arith, length-take t.used t.bytes)
+pub overflow_add-span : goal.overflow_add-span
+overflow_add-span c = let t = c.args.self.now in omega (arith, length-take t.used t.bytes)
 
 pub loop-i-preserved : goal.loop-i-preserved
 loop-i-preserved c =

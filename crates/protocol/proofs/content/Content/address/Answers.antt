@@ -19,26 +19,26 @@ returns-then-sender-receiver c =
     same_agent c.args.self.now c.requires c.args.sender c.args.receiver c.args.message c.if-sender-self.false c.if-receiver-self.false (omega (arith, c.if-message-len.false, c.len.ensures.is))
     c.if-sender-receiver.true
 
-pub returns-in-default : goal.returns-in-default
-returns-in-default c =
+pub returns-in_default : goal.returns-in_default
+returns-in_default c =
     no_sender_name c.args.self.now c.requires c.args.sender c.args.receiver c.args.message c.if-sender-self.false c.if-receiver-self.false (omega (arith, c.if-message-len.false, c.len.ensures.is))
-    c.if-sender-receiver.false c.in-default.ensures
+    c.if-sender-receiver.false c.in_default.ensures
 
-pub returns-in-default-name-of : goal.returns-in-default-name-of
-returns-in-default-name-of c =
+pub returns-in_default-name_of : goal.returns-in_default-name_of
+returns-in_default-name_of c =
     no_receiver_name c.args.self.now c.requires c.args.sender c.args.receiver c.args.message c.if-sender-self.false c.if-receiver-self.false (omega (arith, c.if-message-len.false, c.len.ensures.is))
-    c.if-sender-receiver.false _ c.in-Some.ensures.1 c.in-default-name-of.ensures
+    c.if-sender-receiver.false _ c.in-Some.ensures.1 c.in_default-name_of.ensures
 
 pub returns-then-self-ge64 : goal.returns-then-self-ge64
 returns-then-self-ge64 c =
     no_room c.args.self.now c.requires c.args.sender c.args.receiver c.args.message c.if-sender-self.false c.if-receiver-self.false (omega (arith, c.if-message-len.false, c.len.ensures.is))
-    c.if-sender-receiver.false _ c.in-Some.ensures.1 _ c.in-Some-name-of.ensures.1 c.if-self-ge64.true
+    c.if-sender-receiver.false _ c.in-Some.ensures.1 _ c.in-Some-name_of.ensures.1 c.if-self-ge64.true
 
-pub returns-in-Some-slot-of : goal.returns-in-Some-slot-of
-returns-in-Some-slot-of c =
+pub returns-in-Some-slot_of : goal.returns-in-Some-slot_of
+returns-in-Some-slot_of c =
     let p = c.args.self.now in
     let f = c.in-Some.ensures in
-    let t = c.in-Some-name-of.ensures in
+    let t = c.in-Some-name_of.ensures in
     record {
       sender_below = c.if-sender-self.false;
       receiver_below = c.if-receiver-self.false;
@@ -49,13 +49,13 @@ returns-in-Some-slot-of c =
       to_below = t.0;
       to_is = t.1;
       room = c.if-self-ge64.false;
-      address_is = sym (slot_at p c.requires c.args.sender c.in-Some-name-of.to c.index-self-sender.result c.if-sender-self.false t.0) ∙ sym c.in-Some-slot-of.ensures;
+      address_is = sym (slot_at p c.requires c.args.sender c.in-Some-name_of.to c.index-self-sender.result c.if-sender-self.false t.0) ∙ sym c.in-Some-slot_of.ensures;
     }
 
 pub returns-in-None : goal.returns-in-None
 returns-in-None c =
     let p = c.args.self.now in
-    let t = c.in-Some-name-of.ensures in
+    let t = c.in-Some-name_of.ensures in
     no_address p c.requires c.args.sender c.args.receiver c.args.message c.if-sender-self.false c.if-receiver-self.false (omega (arith, c.if-message-len.false, c.len.ensures.is))
     c.if-sender-receiver.false _ c.in-Some.ensures.1 _ t.1 c.if-self-ge64.false
-    (sym (slot_at p c.requires c.args.sender c.in-Some-name-of.to c.index-self-sender.result c.if-sender-self.false t.0) ∙ sym c.in-None.ensures)
+    (sym (slot_at p c.requires c.args.sender c.in-Some-name_of.to c.index-self-sender.result c.if-sender-self.false t.0) ∙ sym c.in-None.ensures)

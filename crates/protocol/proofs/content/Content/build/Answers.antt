@@ -6,7 +6,7 @@ pub returns : goal.returns
 returns c =
     let call = BUILD c.args.form c.args.a c.args.b in
     record {
-      sound = adds_sound c.args.self.now c.requires call c.build-term.result c.build-term.new.terms c.build-term.ensures;
-      performed = adds_performed c.args.self.now c.requires call c.build-term.result c.build-term.new.terms c.build-term.ensures;
-      unaltered = adds_unaltered c.args.self.now call c.build-term.result c.build-term.new.terms c.build-term.ensures;
+      sound = adds_sound c.args.self.now c.requires call c.build_term.result c.build_term.new.terms c.build_term.ensures;
+      performed = adds_performed c.args.self.now c.requires call c.build_term.result c.build_term.new.terms c.build_term.ensures;
+      unaltered = adds_unaltered c.args.self.now call c.build_term.result c.build_term.new.terms c.build_term.ensures;
     }

@@ -17,5 +17,5 @@ returns c =
     let p = c.args.self.now in
     let l : c.args.term < length (listed p.terms) = omega (arith, c.if-term-len.false, c.len.ensures.is) in
     let d = c.index-self-agent.result in
-    can_said p c.requires c.args.agent c.args.term d c.if-agent-self.false l c.missing.result c.is-none.result c.is-none.ensures
+    can_said p c.requires c.args.agent c.args.term d c.if-agent-self.false l c.missing.result c.is_none.result c.is_none.ensures
     (c.missing.ensures l (agent_known p c.requires c.args.agent d c.if-agent-self.false))

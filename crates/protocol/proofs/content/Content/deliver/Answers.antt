@@ -6,17 +6,17 @@ use Rattle.protocol.proofs.content.Content.deliver.Goals as goal
 
 pub returns-in-Err : goal.returns-in-Err
 returns-in-Err c =
-    rw c.refused-send.ensures
+    rw c.refused_send.ensures
     (send_refused c.args.self.now c.requires.sound c.args.sender c.args.receiver c.args.message c.args.delivery c.requires.addressed c.in-Err.error c.in-Err.ensures)
 
-pub returns-in-default : goal.returns-in-default
-returns-in-default c =
+pub returns-in_default : goal.returns-in_default
+returns-in_default c =
     let p = c.args.self.now in
     let s = c.requires.sound in
     let w = c.requires.addressed in
     let x = c.index-self-receiver.result in
-    receive_refused p s c.args.sender c.args.receiver c.args.message c.args.delivery w c.in-Ok.script c.in-Ok.ensures x c.in-default.field-0
-    (c.in-default.ensures w.from_below w.message_below (name_named (state_of p) c.args.sender _ w.from-is) (agent_known p s c.args.receiver x w.receiver_below))
+    receive_refused p s c.args.sender c.args.receiver c.args.message c.args.delivery w c.in-Ok.script c.in-Ok.ensures x c.in_default.field-0
+    (c.in_default.ensures w.from_below w.message_below (name_named (state_of p) c.args.sender _ w.from-is) (agent_known p s c.args.receiver x w.receiver_below))
 
 pub returns-in-Ok-overhear : goal.returns-in-Ok-overhear
 returns-in-Ok-overhear c =

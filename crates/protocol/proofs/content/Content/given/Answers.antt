@@ -6,7 +6,7 @@ loop-agent-init c = given_none c.args.self.now c.unmarked-marks.result c.unmarke
 
 pub loop-agent-preserved : goal.loop-agent-preserved
 loop-agent-preserved c =
-    given_more c.args.self.now c.requires c.loop-agent.agent c.loop-agent-test.true c.index-self-agent.result c.loop-agent.marks c.mark-given.new.marks c.loop-agent.invariant c.mark-given.ensures
+    given_more c.args.self.now c.requires c.loop-agent.agent c.loop-agent-test.true c.index-self-agent.result c.loop-agent.marks c.mark_given.new.marks c.loop-agent.invariant c.mark_given.ensures
 
 pub returns : goal.returns
 returns c = record {

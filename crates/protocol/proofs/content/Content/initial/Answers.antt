@@ -9,7 +9,7 @@ pub returns-in-Some : goal.returns-in-Some
 returns-in-Some c = begins_here c.args.self.now c.requires c.args.agent c.loop-number.number _ c.loop-number.invariant c.loop-number-test.true c.in-Some.begin c.in-Some.ensures
 
 pub loop-number-preserved : goal.loop-number-preserved
-loop-number-preserved c = not_yet c.args.self.now c.requires c.args.agent c.loop-number.number _ c.loop-number.invariant c.loop-number-test.true c.in-default.ensures
+loop-number-preserved c = not_yet c.args.self.now c.requires c.args.agent c.loop-number.number _ c.loop-number.invariant c.loop-number-test.true c.in_default.ensures
 
 pub returns-then-agent-self : goal.returns-then-agent-self
 returns-then-agent-self c =

@@ -2,23 +2,23 @@ use Rattle.std.proofs.lemmas.Result.{err_from_is_err_and}
 use Rattle.protocol.proofs.Naming.{name_new, refused_name, room_for, named_performed, named_sound, added_name, opened_agent, same_unaltered}
 use Rattle.protocol.proofs.content.Content.name.Goals as goal
 
-pub returns-in-err-admits : goal.returns-in-err-admits
-returns-in-err-admits c =
+pub returns-in_err-admits : goal.returns-in_err-admits
+returns-in_err-admits c =
     let self = c.args.self.now in
-    let q = err_from_is_err_and c.from-residual.result c.from-residual.ensures.1 in
+    let q = err_from_is_err_and c.from_residual.result c.from_residual.ensures.1 in
     record {
       sound = c.requires;
       performed =
-          refused_name self c.requires c.args.kind c.in-Some.kind c.in-Some.ensures c.from-residual.result q.0
-          c.in-err-admits.field-0.0 q.1 q.2 c.in-err-admits.ensures;
-      unaltered = same_unaltered c.from-residual.result self;
+          refused_name self c.requires c.args.kind c.in-Some.kind c.in-Some.ensures c.from_residual.result q.0
+          c.in_err-admits.field-0.0 q.1 q.2 c.in_err-admits.ensures;
+      unaltered = same_unaltered c.from_residual.result self;
     }
 
-pub add-name-requires : goal.add-name-requires
-add-name-requires c =
+pub add_name-requires : goal.add_name-requires
+add_name-requires c =
     let self = c.args.self.now in
     record {
-      room = (room_for self c.requires c.args.kind c.in-Some.kind c.in-Some.ensures c.in-ok-admits.ensures).0;
+      room = (room_for self c.requires c.args.kind c.in-Some.kind c.in-Some.ensures c.in_ok-admits.ensures).0;
       new = name_new self c.requires c.in-Some.kind;
     }
 
@@ -26,14 +26,14 @@ pub returns-then-eq : goal.returns-then-eq
 returns-then-eq c =
     let self = c.args.self.now in
     let k = c.in-Some.kind in
-    let w = c.in-ok-name.ensures in
+    let w = c.in_ok-name.ensures in
     let did =
-    opened_agent self k c.in-ok-name.name c.add-name.new.terms _ c.open-agent.new.self c.if-eq.ensures w.0 w.1
-    c.party-script.ensures c.open-agent.ensures in
-    let room = c.in-ok-admits.ensures in
+    opened_agent self k c.in_ok-name.name c.add_name.new.terms _ c.open_agent.new.self c.if-eq.ensures w.0 w.1
+    c.party_script.ensures c.open_agent.ensures in
+    let room = c.in_ok-admits.ensures in
     record {
-      sound = named_sound self c.requires c.args.kind k c.in-Some.ensures c.in-ok-name.name c.open-agent.new.self room did;
-      performed = named_performed self c.requires c.args.kind k c.in-Some.ensures c.in-ok-name.name c.open-agent.new.self room did;
+      sound = named_sound self c.requires c.args.kind k c.in-Some.ensures c.in_ok-name.name c.open_agent.new.self room did;
+      performed = named_performed self c.requires c.args.kind k c.in-Some.ensures c.in_ok-name.name c.open_agent.new.self room did;
       unaltered = tt;
     }
 
@@ -41,11 +41,11 @@ pub returns-else-eq : goal.returns-else-eq
 returns-else-eq c =
     let self = c.args.self.now in
     let k = c.in-Some.kind in
-    let w = c.in-ok-name.ensures in
-    let did = added_name self k c.in-ok-name.name c.add-name.new.terms c.if-eq.ensures w.0 w.1 in
-    let room = c.in-ok-admits.ensures in
+    let w = c.in_ok-name.ensures in
+    let did = added_name self k c.in_ok-name.name c.add_name.new.terms c.if-eq.ensures w.0 w.1 in
+    let room = c.in_ok-admits.ensures in
     record {
-      sound = named_sound self c.requires c.args.kind k c.in-Some.ensures c.in-ok-name.name _ room did;
-      performed = named_performed self c.requires c.args.kind k c.in-Some.ensures c.in-ok-name.name _ room did;
+      sound = named_sound self c.requires c.args.kind k c.in-Some.ensures c.in_ok-name.name _ room did;
+      performed = named_performed self c.requires c.args.kind k c.in-Some.ensures c.in_ok-name.name _ room did;
       unaltered = tt;
     }

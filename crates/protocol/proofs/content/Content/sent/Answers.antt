@@ -18,9 +18,9 @@ returns c =
     let ts = listed p.terms in
     let s = c.requires.sound in
     let n = c.args.message in
-    let fresh = c.fresh-names-fresh.result in
+    let fresh = c.fresh_names-fresh.result in
     let d = c.index-self-sender.result in
-    let F = c.fresh-names-fresh.ensures in
+    let F = c.fresh_names-fresh.ensures in
     subst (λ (v : RuleScript). Sends ts v (fresh_names (state_of p) (tree ts n)) (tree ts n) c.args.address c.send.result) (view_at p s c.args.sender d c.requires.agent)
     (subst (λ (f : List Term). Sends ts (view ts (get_or p.scripts c.args.sender d)) f (tree ts n) c.args.address c.send.result) (fresh_marked p s n c.requires.term c.shown.result c.shown.ensures fresh F)
     (c.send.ensures c.requires.term (agent_known p s c.args.sender d c.requires.agent) (names_marked p s n c.requires.term c.shown.result c.shown.ensures fresh F) (mates_known p s fresh)))

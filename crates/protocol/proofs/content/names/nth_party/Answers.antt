@@ -12,19 +12,19 @@ pub returns-then-left-eq0 : goal.returns-then-left-eq0
 returns-then-left-eq0 c =
     let ts = c.args.terms.now in
     let l : c.loop-id.id < length (listed ts) = omega (arith, c.loop-id-test.true, c.len-id-end.ensures.is) in
-    (l, left_here (listed ts) (orderly ts) c.args.before c.loop-id.id c.loop-id.left l c.loop-id.invariant c.get.result c.get.ensures.reads c.if-is-party.ensures c.if-left-eq0.true)
+    (l, left_here (listed ts) (orderly ts) c.args.before c.loop-id.id c.loop-id.left l c.loop-id.invariant c.get.result c.get.ensures.reads c.if-is_party.ensures c.if-left-eq0.true)
 
 pub loop-id-preserved : goal.loop-id-preserved
 loop-id-preserved c =
     let ts = c.args.terms.now in
     let l : c.loop-id.id < length (listed ts) = omega (arith, c.loop-id-test.true, c.len-id-end.ensures.is) in
-    elim c.if-is-party.branch [
+    elim c.if-is_party.branch [
       | then-is-party+else-left-eq0 w ↦
-          let q : c.loop-id.left ≡ suc c.if-is-party.left = omega (arith, w.left-is, w.if-left-eq0.false) in
-          left_less (listed ts) (orderly ts) c.args.before c.loop-id.id c.loop-id.left l c.loop-id.invariant c.get.result c.get.ensures.reads w.if-is-party.ensures c.if-is-party.left q
+          let q : c.loop-id.left ≡ suc c.if-is_party.left = omega (arith, w.left-is, w.if-left-eq0.false) in
+          left_less (listed ts) (orderly ts) c.args.before c.loop-id.id c.loop-id.left l c.loop-id.invariant c.get.result c.get.ensures.reads w.if-is_party.ensures c.if-is_party.left q
       | else-is-party w ↦
           subst (LeftFrom (listed ts) c.args.before _) (sym w.left-is)
-          (left_more (listed ts) (orderly ts) c.args.before c.loop-id.id c.loop-id.left l c.loop-id.invariant c.get.result c.get.ensures.reads w.if-is-party.ensures)
+          (left_more (listed ts) (orderly ts) c.args.before c.loop-id.id c.loop-id.left l c.loop-id.invariant c.get.result c.get.ensures.reads w.if-is_party.ensures)
     ]
 
 pub returns : goal.returns

@@ -1,8 +1,8 @@
 use Rattle.protocol.proofs.Reaching.{blank_view, blank_sound}
 use Rattle.protocol.proofs.protocol.Protocol.blank.Goals as goal
 
-pub invariant-of-result : goal.invariant-of-result
-invariant-of-result c =
+pub invariant_of-result : goal.invariant_of-result
+invariant_of-result c =
     let s = blank_sound c.blank.result c.blank.ensures in
     (s.agents_few, (s.steps_few, (s.scripts_size, (s.steps_size, (s.known, (s.came, tt))))))
 

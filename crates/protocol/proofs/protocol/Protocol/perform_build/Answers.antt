@@ -5,8 +5,8 @@ use Rattle.protocol.proofs.protocol.Protocol.perform_build.Goals as goal
 pub build-requires : goal.build-requires
 build-requires c = sound c.args.self.now
 
-pub invariant-of-self : goal.invariant-of-self
-invariant-of-self c =
+pub invariant_of-self : goal.invariant_of-self
+invariant_of-self c =
     let s = c.build.ensures.sound in
     (s.agents_few, (s.steps_few, (s.scripts_size, (s.steps_size, (s.known, (s.came, tt))))))
 

@@ -5,8 +5,8 @@ use Rattle.protocol.proofs.protocol.Protocol.perform_knowledge.Goals as goal
 pub know-requires : goal.know-requires
 know-requires c = sound c.args.self.now
 
-pub invariant-of-self : goal.invariant-of-self
-invariant-of-self c =
+pub invariant_of-self : goal.invariant_of-self
+invariant_of-self c =
     let s = c.know.ensures.sound in
     (s.agents_few, (s.steps_few, (s.scripts_size, (s.steps_size, (s.known, (s.came, tt))))))
 

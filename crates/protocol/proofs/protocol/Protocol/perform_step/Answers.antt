@@ -7,8 +7,8 @@ use Rattle.protocol.proofs.protocol.Protocol.perform_step.Goals as goal
 pub step-requires : goal.step-requires
 step-requires c = sound c.args.self.now
 
-pub invariant-of-self : goal.invariant-of-self
-invariant-of-self c =
+pub invariant_of-self : goal.invariant_of-self
+invariant_of-self c =
     let s = c.step.ensures.sound in
     (s.agents_few, (s.steps_few, (s.scripts_size, (s.steps_size, (s.known, (s.came, tt))))))
 

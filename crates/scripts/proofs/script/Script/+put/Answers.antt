@@ -15,44 +15,44 @@ returns-in-Some t c =
       puts = λ l k. put_found (listed ts) (orderly ts) s c.args.term l k c.in-Some.slot c.in-Some.ensures;
     }
 
-pub returns-in-default-parts : goal.returns-in-default-parts
-returns-in-default-parts t c =
+pub returns-in_default-parts : goal.returns-in_default-parts
+returns-in_default-parts t c =
     let s = c.args.self.now in
     let ts = c.args.terms.now in
     record {
       begins = begins_here (written s);
-      puts = λ l k. put_missing (listed ts) (orderly ts) s c.args.term l k c.in-default.ensures c.args.term s (c.in-default-parts.ensures l);
+      puts = λ l k. put_missing (listed ts) (orderly ts) s c.args.term l k c.in_default.ensures c.args.term s (c.in_default-parts.ensures l);
     }
 
-pub returns-in-err-first : goal.returns-in-err-first
-returns-in-err-first t c =
+pub returns-in_err-first : goal.returns-in_err-first
+returns-in_err-first t c =
     let s = c.args.self.now in
     let ts = c.args.terms.now in
     let v = c.in-Some-parts in
     let p = v.ensures in
-    let q = err_from_is_err_and c.from-residual.result c.from-residual.ensures.1 in
-    let e = c.in-err-first.ensures in
+    let q = err_from_is_err_and c.from_residual.result c.from_residual.ensures.1 in
+    let e = c.in_err-first.ensures in
     record {
       begins = e.begins;
-      puts = λ l k. rw (q.1, q.2) (first_stopped (listed ts) (orderly ts) s c.args.term l k c.in-default.ensures v.form v.a v.b p.1 c.in-err-first.field-0.0 c.put.new.self (e.puts (first_below (listed ts) (orderly ts) s c.args.term l k c.in-default.ensures v.form v.a v.b p.1) k));
+      puts = λ l k. rw (q.1, q.2) (first_stopped (listed ts) (orderly ts) s c.args.term l k c.in_default.ensures v.form v.a v.b p.1 c.in_err-first.field-0.0 c.put.new.self (e.puts (first_below (listed ts) (orderly ts) s c.args.term l k c.in_default.ensures v.form v.a v.b p.1) k));
     }
 
-pub returns-in-err-second : goal.returns-in-err-second
-returns-in-err-second t c =
+pub returns-in_err-second : goal.returns-in_err-second
+returns-in_err-second t c =
     let s = c.args.self.now in
     let ts = c.args.terms.now in
     let v = c.in-Some-parts in
     let p = v.ensures in
-    let q = err_from_is_err_and c.from-residual-in-err-second.result c.from-residual-in-err-second.ensures.1 in
-    let d = c.in-ok-first.ensures in
-    let e = c.in-err-second.ensures in
+    let q = err_from_is_err_and c.from_residual-in_err-second.result c.from_residual-in_err-second.ensures.1 in
+    let d = c.in_ok-first.ensures in
+    let e = c.in_err-second.ensures in
     record {
       begins = begins_on (written s) (written c.put.new.self) (written c.put-2.new.self) d.begins e.begins;
       puts = λ l k.
-          let la = first_below (listed ts) (orderly ts) s c.args.term l k c.in-default.ensures v.form v.a v.b p.1 in
-          let lb = second_below (listed ts) (orderly ts) s c.args.term l k c.in-default.ensures v.form v.a v.b p.1 in
+          let la = first_below (listed ts) (orderly ts) s c.args.term l k c.in_default.ensures v.form v.a v.b p.1 in
+          let lb = second_below (listed ts) (orderly ts) s c.args.term l k c.in_default.ensures v.form v.a v.b p.1 in
           let f = d.puts la k in
-          rw (q.1, q.2) (second_stopped (listed ts) (orderly ts) s c.args.term l k c.in-default.ensures v.form v.a v.b p.1 c.in-ok-first.first c.put.new.self f c.in-err-second.field-0.0 c.put-2.new.self (e.puts lb f.1));
+          rw (q.1, q.2) (second_stopped (listed ts) (orderly ts) s c.args.term l k c.in_default.ensures v.form v.a v.b p.1 c.in_ok-first.first c.put.new.self f c.in_err-second.field-0.0 c.put-2.new.self (e.puts lb f.1));
     }
 
 pub returns : goal.returns
@@ -61,15 +61,15 @@ returns t c =
     let ts = c.args.terms.now in
     let v = c.in-Some-parts in
     let p = v.ensures in
-    let d = c.in-ok-first.ensures in
-    let e = c.in-ok-second.ensures in
+    let d = c.in_ok-first.ensures in
+    let e = c.in_ok-second.ensures in
     let w = rw c.builder.ensures at c.push.ensures in
     record {
       begins = begins_on (written s) (written c.put-2.new.self) (written c.push.new.self) (begins_on (written s) (written c.put.new.self) (written c.put-2.new.self) d.begins e.begins) (pushed_begins c.put-2.new.self c.push.new.self _ c.push.result w);
       puts = λ l k.
-          let la = first_below (listed ts) (orderly ts) s c.args.term l k c.in-default.ensures v.form v.a v.b p.1 in
-          let lb = second_below (listed ts) (orderly ts) s c.args.term l k c.in-default.ensures v.form v.a v.b p.1 in
+          let la = first_below (listed ts) (orderly ts) s c.args.term l k c.in_default.ensures v.form v.a v.b p.1 in
+          let lb = second_below (listed ts) (orderly ts) s c.args.term l k c.in_default.ensures v.form v.a v.b p.1 in
           let f = d.puts la k in
           let g = e.puts lb f.1 in
-          wrote (listed ts) (orderly ts) s c.args.term l k c.in-default.ensures v.form v.a v.b p.1 c.in-ok-first.first c.put.new.self f c.in-ok-second.second c.put-2.new.self g c.push.result c.push.new.self w;
+          wrote (listed ts) (orderly ts) s c.args.term l k c.in_default.ensures v.form v.a v.b p.1 c.in_ok-first.first c.put.new.self f c.in_ok-second.second c.put-2.new.self g c.push.result c.push.new.self w;
     }

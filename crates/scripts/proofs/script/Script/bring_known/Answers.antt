@@ -9,54 +9,54 @@ use Rattle.scripts.proofs.Writing.{pushed_writes}
 use Rattle.scripts.proofs.Walking.{first_stop, second_stop, compared_all, writes_unit}
 use Rattle.scripts.proofs.script.Script.bring_known.Goals as goal
 
-pub returns-in-err-slot : goal.returns-in-err-slot
-returns-in-err-slot c =
+pub returns-in_err-slot : goal.returns-in_err-slot
+returns-in_err-slot c =
     let ts = listed c.args.terms.now in
     let s = c.args.self.now in
     let s1 = c.push.new.self in
-    let q = err_from_is_err_and c.from-residual.result c.from-residual.ensures.1 in
+    let q = err_from_is_err_and c.from_residual.result c.from_residual.ensures.1 in
     let l : Line = record { op = c.args.op; holds = None } in
-    let x = c.in-err-slot.field-0.0 in
-    let p = c.in-err-slot.ensures in
+    let x = c.in_err-slot.field-0.0 in
+    let p = c.in_err-slot.ensures in
     record {
       begins = pushed_begins s s1 l (Err x) p;
       compares = λ lt k b m e. rw (q.1, q.2) (first_stop ts s c.args.op c.args.term m e x s1 (pushed_writes ts s s1 l (Err x) p k (tt, b)));
     }
 
-pub returns-in-err-made : goal.returns-in-err-made
-returns-in-err-made c =
+pub returns-in_err-made : goal.returns-in_err-made
+returns-in_err-made c =
     let ts = listed c.args.terms.now in
     let s = c.args.self.now in
     let s1 = c.push.new.self in
     let s2 = c.put.new.self in
-    let q = err_from_is_err_and c.from-residual-in-err-made.result c.from-residual-in-err-made.ensures.1 in
+    let q = err_from_is_err_and c.from_residual-in_err-made.result c.from_residual-in_err-made.ensures.1 in
     let l : Line = record { op = c.args.op; holds = None } in
-    let n = c.in-ok-slot.slot in
-    let p = c.in-ok-slot.ensures in
-    let w = c.in-err-made.ensures in
+    let n = c.in_ok-slot.slot in
+    let p = c.in_ok-slot.ensures in
+    let w = c.in_err-made.ensures in
     record {
       begins = begins_on (written s) (written s1) (written s2) (pushed_begins s s1 l (Ok n) p) w.begins;
       compares = λ lt k b m e.
           let one = pushed_writes ts s s1 l (Ok n) p k (tt, b) in
-          rw (q.1, q.2) (second_stop ts s c.args.op c.args.term m e n s1 p.0 one.0 c.in-err-made.field-0.0 s2 (w.puts lt one.1));
+          rw (q.1, q.2) (second_stop ts s c.args.op c.args.term m e n s1 p.0 one.0 c.in_err-made.field-0.0 s2 (w.puts lt one.1));
     }
 
-pub returns-in-err-push : goal.returns-in-err-push
-returns-in-err-push c =
+pub returns-in_err-push : goal.returns-in_err-push
+returns-in_err-push c =
     let ts = listed c.args.terms.now in
     let s = c.args.self.now in
     let s1 = c.push.new.self in
     let s2 = c.put.new.self in
     let s3 = c.push-2.new.self in
-    let q = err_from_is_err_and c.from-residual-in-err-push.result c.from-residual-in-err-push.ensures.1 in
-    let n = c.in-ok-slot.slot in
-    let made = c.in-ok-made.made in
-    let x = c.in-err-push.field-0.0 in
+    let q = err_from_is_err_and c.from_residual-in_err-push.result c.from_residual-in_err-push.ensures.1 in
+    let n = c.in_ok-slot.slot in
+    let made = c.in_ok-made.made in
+    let x = c.in_err-push.field-0.0 in
     let l : Line = record { op = c.args.op; holds = None } in
     let l2 : Line = record { op = Same n made; holds = None } in
-    let p = c.in-ok-slot.ensures in
-    let w = c.in-ok-made.ensures in
-    let z = c.in-err-push.ensures in
+    let p = c.in_ok-slot.ensures in
+    let w = c.in_ok-made.ensures in
+    let z = c.in_err-push.ensures in
     record {
       begins = begins_on (written s) (written s2) (written s3) (begins_on (written s) (written s1) (written s2) (pushed_begins s s1 l (Ok n) p) w.begins) (pushed_begins s2 s3 l2 (Err x) z);
       compares = λ lt k b m e.
@@ -72,14 +72,14 @@ returns c =
     let s1 = c.push.new.self in
     let s2 = c.put.new.self in
     let s3 = c.push-2.new.self in
-    let n = c.in-ok-slot.slot in
-    let made = c.in-ok-made.made in
-    let y = c.in-ok-push.field-0 in
+    let n = c.in_ok-slot.slot in
+    let made = c.in_ok-made.made in
+    let y = c.in_ok-push.field-0 in
     let l : Line = record { op = c.args.op; holds = None } in
     let l2 : Line = record { op = Same n made; holds = None } in
-    let p = c.in-ok-slot.ensures in
-    let w = c.in-ok-made.ensures in
-    let z = c.in-ok-push.ensures in
+    let p = c.in_ok-slot.ensures in
+    let w = c.in_ok-made.ensures in
+    let z = c.in_ok-push.ensures in
     record {
       begins = begins_on (written s) (written s2) (written s3) (begins_on (written s) (written s1) (written s2) (pushed_begins s s1 l (Ok n) p) w.begins) (pushed_begins s2 s3 l2 (Ok y) z);
       compares = λ lt k b m e.

@@ -24,7 +24,7 @@ loop-slot-preserved c = λ k.
     let i = c.loop-slot.slot in
     let l = c.loop-slot-test.true in
     nothing_next ts s k i l (c.loop-slot.invariant k)
-    (c.in-default.ensures (view ts s) (line_below ts s k i l) (held_in ts s k) (c.judged-judged.ensures k))
+    (c.in_default.ensures (view ts s) (line_below ts s k i l) (held_in ts s k) (c.judged-judged.ensures k))
 
 pub returns : goal.returns
 returns c = λ k. nothing_left (listed c.args.terms.now) c.args.self.now c.loop-slot.slot c.loop-slot-test.false (c.loop-slot.invariant k)

@@ -5,14 +5,14 @@ use Rattle.scripts.proofs.Composing.{begins_on, pushed_begins}
 use Rattle.scripts.proofs.Writing.{pushed_longer, longer_after, open_stopped, open_written}
 use Rattle.scripts.proofs.script.Script.open.Goals as goal
 
-pub returns-in-err-with : goal.returns-in-err-with
-returns-in-err-with c =
-    let q = err_from_is_err_and c.from-residual.result c.from-residual.ensures.1 in
-    let e = c.in-err-with.ensures in
+pub returns-in_err-with : goal.returns-in_err-with
+returns-in_err-with c =
+    let q = err_from_is_err_and c.from_residual.result c.from_residual.ensures.1 in
+    let e = c.in_err-with.ensures in
     record {
       begins = e.begins;
       longer = rw q.1 tt;
-      opens = λ lo lc k w t. rw (q.1, q.2) (open_stopped (listed c.args.terms.now) c.args.self.now c.args.slot c.args.opener c.args.content w t c.in-err-with.field-0.0 c.put.new.self (e.puts lo k));
+      opens = λ lo lc k w t. rw (q.1, q.2) (open_stopped (listed c.args.terms.now) c.args.self.now c.args.slot c.args.opener c.args.content w t c.in_err-with.field-0.0 c.put.new.self (e.puts lo k));
     }
 
 pub returns : goal.returns
@@ -20,9 +20,9 @@ returns c =
     let s = c.args.self.now in
     let s1 = c.put.new.self in
     let s2 = c.push.new.self in
-    let e = c.in-ok-with.ensures in
+    let e = c.in_ok-with.ensures in
     record {
       begins = begins_on (written s) (written s1) (written s2) e.begins (pushed_begins s1 s2 _ c.push.result c.push.ensures);
       longer = longer_after s s1 s2 c.push.result e.begins (pushed_longer s1 s2 _ c.push.result c.push.ensures);
-      opens = λ lo lc k w t. open_written (listed c.args.terms.now) s c.args.slot c.args.opener c.args.content w t c.in-ok-with.with s1 (e.puts lo k) lc c.push.result s2 c.push.ensures;
+      opens = λ lo lc k w t. open_written (listed c.args.terms.now) s c.args.slot c.args.opener c.args.content w t c.in_ok-with.with s1 (e.puts lo k) lc c.push.result s2 c.push.ensures;
     }

@@ -5,17 +5,17 @@ use Rattle.scripts.specs.View.{written}
 use Rattle.scripts.proofs.Slots.{found, unfound, none_taken}
 use Rattle.scripts.proofs.script.Script.slot_of.Goals as goal
 
-pub returns-then-is-held : goal.returns-then-is-held
-returns-then-is-held c =
+pub returns-then-is_held : goal.returns-then-is_held
+returns-then-is_held c =
     let s = c.args.self.now in
     let i = c.loop-slot.slot in
     let n = length-take-le s.len s.lines (omega (arith, s.size, s.few)) in
     sym (found 0 i c.args.term (written s) (omega (arith, n, c.loop-slot-test.true)) (none_taken s.lines s.len i c.args.term (omega (arith, c.loop-slot-test.true)) c.loop-slot.invariant)
-    (ap (λ v. is_number c.args.term v.holds) (get_or-take s.len s.lines i no_line c.loop-slot-test.true) ∙ sym c.if-is-held.ensures)
+    (ap (λ v. is_number c.args.term v.holds) (get_or-take s.len s.lines i no_line c.loop-slot-test.true) ∙ sym c.if-is_held.ensures)
     ∙ ap Some (omega arith))
 
 pub loop-slot-preserved : goal.loop-slot-preserved
-loop-slot-preserved c = below_more _ _ c.loop-slot.invariant (sym c.if-is-held.ensures)
+loop-slot-preserved c = below_more _ _ c.loop-slot.invariant (sym c.if-is_held.ensures)
 
 pub returns : goal.returns
 returns c =

@@ -11,12 +11,12 @@ pub loop-taking-init : goal.loop-taking-init
 loop-taking-init c = (begins_here (written c.args.self.now), λ k. (k, λ u x. x))
 
 pub loop-taking-smaller : goal.loop-taking-smaller
-loop-taking-smaller c = omega (arith, c.in-ok-take.ensures.longer, written_few c.take.new.self)
+loop-taking-smaller c = omega (arith, c.in_ok-take.ensures.longer, written_few c.take.new.self)
 
 pub loop-taking-preserved : goal.loop-taking-preserved
 loop-taking-preserved c =
     let ts = listed c.args.terms.now in
-    let e = c.in-ok-take.ensures in (
+    let e = c.in_ok-take.ensures in (
       begins_on (written c.args.self.now) (written c.loop-taking.self) (written c.take.new.self) c.loop-taking.invariant.0 e.begins,
       λ k.
           let i = c.loop-taking.invariant.1 k in
@@ -24,17 +24,17 @@ loop-taking-preserved c =
           take_on ts c.args.self.now c.loop-taking.self c.take.new.self i.1 c.in-Some.taking n (e.takes n.1 i.0 n.2.0 (sym n.0 ∙ n.2.1)),
     )
 
-pub returns-in-err-take : goal.returns-in-err-take
-returns-in-err-take c =
+pub returns-in_err-take : goal.returns-in_err-take
+returns-in_err-take c =
     let ts = listed c.args.terms.now in
-    let q = err_from_is_err_and c.from-residual.result c.from-residual.ensures.1 in
-    let e = c.in-err-take.ensures in
+    let q = err_from_is_err_and c.from_residual.result c.from_residual.ensures.1 in
+    let e = c.in_err-take.ensures in
     record {
       begins = begins_on (written c.args.self.now) (written c.loop-taking.self) (written c.take.new.self) c.loop-taking.invariant.0 e.begins;
       takes = λ k.
           let i = c.loop-taking.invariant.1 k in
           let n = c.in-Some.ensures i.0 in
-          rw (q.1, q.2) (take_stopped ts c.args.self.now c.loop-taking.self c.take.new.self i.1 c.in-Some.taking n c.in-err-take.field-0.0 (e.takes n.1 i.0 n.2.0 (sym n.0 ∙ n.2.1)));
+          rw (q.1, q.2) (take_stopped ts c.args.self.now c.loop-taking.self c.take.new.self i.1 c.in-Some.taking n c.in_err-take.field-0.0 (e.takes n.1 i.0 n.2.0 (sym n.0 ∙ n.2.1)));
     }
 
 pub returns : goal.returns
@@ -44,5 +44,5 @@ returns c =
       begins = c.loop-taking.invariant.0;
       takes = λ k.
           let i = c.loop-taking.invariant.1 k in
-          (saturate_done (view ts c.args.self.now) (view ts c.loop-taking.self) i.1 (c.in-default.ensures i.0), i.0);
+          (saturate_done (view ts c.args.self.now) (view ts c.loop-taking.self) i.1 (c.in_default.ensures i.0), i.0);
     }

@@ -7,5 +7,5 @@ use Rattle.scripts.proofs.script.saturate.take_held.Goals as goal
 pub returns-in-Some : goal.returns-in-Some
 returns-in-Some c = λ v b h j.
     let ts = listed c.args.terms.now in
-    held_takes ts v c.args.slot c.args.holds c.in-Some.term c.take_term_lem.result c.in-Some.is
-    (c.take_term_lem.ensures v (subst (Below (length ts)) c.in-Some.is b) h j)
+    held_takes ts v c.args.slot c.args.holds c.in-Some.term c.take_term.result c.in-Some.is
+    (c.take_term.ensures v (subst (Below (length ts)) c.in-Some.is b) h j)

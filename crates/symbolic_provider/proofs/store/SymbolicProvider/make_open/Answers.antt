@@ -4,8 +4,8 @@ use Rattle.symbolic_provider.specs.State.{nodes_of}
 use Rattle.symbolic_provider.proofs.Parts.{open_unsealed, open_done, open_other, open_none}
 use Rattle.symbolic_provider.proofs.store.SymbolicProvider.make_open.Goals as goal
 
-pub returns-in-default : goal.returns-in-default
-returns-in-default c = open_unsealed c.args.self.now c.args.sealed c.args.opener c.in-default.ensures
+pub returns-in_default : goal.returns-in_default
+returns-in_default c = open_unsealed c.args.self.now c.args.sealed c.args.opener c.in_default.ensures
 
 pub returns-in-Some-opener : goal.returns-in-Some-opener
 returns-in-Some-opener c =

@@ -13,7 +13,7 @@ returns g c =
     let held = c.args.held.now in
     let m = c.loop-a.lacking in
     let inv = c.loop-a.invariant in
-    let here = missing_itself (listed t) held (orderly t) m inv.0 inv.1 c.node.result (sym {b = node_at (listed t) m} c.node.ensures.is) c.in-default.not-Built in
+    let here = missing_itself (listed t) held (orderly t) m inv.0 inv.1 c.node.result (sym {b = node_at (listed t) m} c.node.ensures.is) c.in_default.not-Built in
     let whole : FirstMissing (held_terms (listed t) held) (tree (listed t) c.args.id) (tree (listed t) m) = inv.2 (tree (listed t) m) here in
     record {
       first = (omega arith, inv.0, whole);

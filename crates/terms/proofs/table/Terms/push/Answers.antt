@@ -21,8 +21,8 @@ pushed t r l known proper absent =
     subst Orderly (sym (longer t r l))
     (orderly_push (listed t) r ok (known_below (listed t) r known) (proper_fits (listed t) r ok known proper) absent)
 
-pub invariant-of-self : goal.invariant-of-self
-invariant-of-self g c =
+pub invariant_of-self : goal.invariant_of-self
+invariant_of-self g c =
     let t = c.args.self.now in
     let l : t.count < g.row.N = omega arith in
     let ok = pushed t c.args.node l c.requires.known c.requires.proper c.requires.absent in
