@@ -26,7 +26,13 @@ invariant_of-self g c =
     let t = c.args.self.now in
     let l : t.count < g.row.N = omega arith in
     let ok = pushed t c.args.node l c.requires.known c.requires.proper c.requires.absent in
-    (search rules, (search rules, (ok.lower, (ok.fitting, (ok.once, tt)))))
+    record {
+      size = search rules;
+      few = search rules;
+      lower = ok.lower;
+      fitting = ok.fitting;
+      once = ok.once;
+    }
 
 stands_new : (ts us : List TermNode) (r : TermNode) (n : ℕ) → Orderly ts → Known ts r → Proper ts r → Absent ts r → us ≡ ts ++ r ∷ [] → n ≡ length ts
     → (n < length us) × (tree us n ≡ tree_of r (tree ts))
