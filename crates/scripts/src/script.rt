@@ -5,9 +5,9 @@ use crate::instruction::Line;
 
 mod compose;
 mod lines;
-mod rules;
 mod saturate;
 mod walk;
+mod writing;
 
 #[derive(Clone, Copy)]
 pub struct Script {

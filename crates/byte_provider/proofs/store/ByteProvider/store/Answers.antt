@@ -22,25 +22,14 @@ invariant_of-self c =
     let ys = added (bytes_of s) c.args.plan in
     let n = ap length w.adds.bytes ∙ length-append (bytes_of s) ys in
     let l : s.count < length s.spans = omega (arith, r.0, s.places) in
-    let more : length (bytes_of s) ≤ length (held t) = omega (arith, n) in (
-      omega (arith, r.1, s.fits, s.filled, w.adds.used),
-      (
-        omega (arith, n, s.filled, w.adds.used),
-        (
-          (λ k. rw w.adds.bytes (small_append (bytes_of s) ys s.small (added_small (bytes_of s) c.args.plan s.small c.requires.0) k)),
-          (
-            length-set s.spans s.count c.write-span.result ∙ s.places,
-            (
-              omega (arith, r.0),
-              (
-                within_next s.spans s.count (length (bytes_of s)) (length (held t)) c.write-span.result l more w.within s.within,
-                tt,
-              ),
-            ),
-          ),
-        ),
-      ),
-    )
+    let more : length (bytes_of s) ≤ length (held t) = omega (arith, n) in record {
+      fits = omega (arith, r.1, s.fits, s.filled, w.adds.used);
+      filled = omega (arith, n, s.filled, w.adds.used);
+      small = (λ k. rw w.adds.bytes (small_append (bytes_of s) ys s.small (added_small (bytes_of s) c.args.plan s.small c.requires.0) k));
+      places = length-set s.spans s.count c.write-span.result ∙ s.places;
+      few = omega (arith, r.0);
+      within = within_next s.spans s.count (length (bytes_of s)) (length (held t)) c.write-span.result l more w.within s.within;
+    }
 
 pub returns : goal.returns
 returns c =
