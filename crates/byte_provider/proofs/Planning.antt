@@ -1,8 +1,8 @@
 -- Each plan writes the value of its making.
-use Rattle.std.proofs.Common.{◌≡◌, ℕ, ◌+◌, ◌-◌, ◌*◌, ◌<◌, ◌≤◌, Bool, true, false, cond, leb, List, [], ◌∷◌, ◌++◌, length, take, drop, is_some, Some, None, Option, sym, refl, ap, ◌∙◌, ap₂, append-nil, arith, length-append, drop-drop, leb-true}
+use Rattle.std.proofs.Common.{◌≡◌, ℕ, ◌+◌, ◌-◌, ◌*◌, ◌<◌, ◌≤◌, Bool, true, false, cond, leb, List, [], ◌∷◌, length, take, drop, is_some, Some, None, sym, refl, ap, ◌∙◌, ap₂, append-nil, arith, drop-drop, leb-true}
 use mathlib.Core.Bool.{false≢true}
 use Rattle.provider.specs.declared.Making.{Making}
-use Rattle.provider.specs.declared.Making.TheVariants.{Join, Left, Right, Seal, Open, Mate}
+use Rattle.provider.specs.declared.Making.TheVariants.{Join, Left, Right, Mate}
 use Rattle.provider.specs.Meaning.{stands, on}
 use Rattle.byte_provider.specs.declared.store.ByteProvider.{ByteProvider}
 use Rattle.byte_provider.specs.declared.span.Span.{Span}
@@ -15,7 +15,7 @@ use Rattle.byte_provider.specs.Held.{part, Inside, no_span}
 use Rattle.byte_provider.specs.Plans.{head_bytes, length_bytes, HeadFits}
 use Rattle.byte_provider.specs.Planned.{Lies, PlanFor}
 use Rattle.byte_provider.specs.State.{bytes_of, issued_of, made_of, stored}
-use Rattle.byte_provider.specs.Values.{left_size, left_of, right_of, key_type, shifted, sealing, opening, mate_first, body}
+use Rattle.byte_provider.specs.Values.{left_size, key_type, shifted, mate_first, body}
 use Rattle.byte_provider.specs.Parts.{length_part, part_part, part_rest}
 
 -- a left part is no longer than what follows the two length bytes

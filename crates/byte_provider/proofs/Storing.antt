@@ -1,5 +1,5 @@
 -- Storing the value of a plan is what its making does.
-use Rattle.std.proofs.Common.{◌≡◌, ℕ, ◌+◌, ◌-◌, ◌<◌, ◌≤◌, Bool, true, cond, ◌&&◌, ltb, leb, List, [], ◌∷◌, ◌++◌, length, is_some, Some, Ok, sym, refl, ap, ◌∙◌, arith, length-append, ltb-true, eq-eqb, ne_eqb, leb-true}
+use Rattle.std.proofs.Common.{◌≡◌, ℕ, ◌+◌, ◌-◌, ◌<◌, ◌≤◌, true, cond, List, ◌∷◌, ◌++◌, length, is_some, Some, Ok, sym, refl, ap, ◌∙◌, arith, length-append, ltb-true, eq-eqb, ne_eqb, leb-true}
 use Rattle.std.proofs.lemmas.Bool.{and_parts}
 use Rattle.provider.specs.declared.Making.{Making}
 use Rattle.provider.specs.Meaning.{stands, Answers}
@@ -9,8 +9,8 @@ use Rattle.byte_provider.specs.declared.plan.Plan.TheVariants.{Copied, Shifted}
 use Rattle.byte_provider.specs.declared.plan.Head.{Head}
 use Rattle.byte_provider.specs.declared.plan.Shift.{Shift}
 use Rattle.byte_provider.specs.declared.span.Span.{Span}
-use Rattle.byte_provider.specs.Held.{held, part}
-use Rattle.byte_provider.specs.Outcome.{Granted, Done}
+use Rattle.byte_provider.specs.Held.{part}
+use Rattle.byte_provider.specs.Outcome.{Done}
 use Rattle.byte_provider.specs.Planned.{PlanFor}
 use Rattle.byte_provider.specs.Plans.{head_bytes, written, added, Sound}
 use Rattle.byte_provider.specs.State.{bytes_of, issued_of, issued_below, made_of, fits_of, meaning_of, has_room, free, stored, room}
@@ -18,7 +18,7 @@ use Rattle.byte_provider.specs.Values.{byte_algebra}
 use Rattle.byte_provider.specs.Writing.{Written}
 use Rattle.byte_provider.specs.Parts.{length_part}
 use Rattle.byte_provider.proofs.Loops.{length_shifted}
-use Rattle.byte_provider.specs.Issued.{below, length_issued, issued_more, issued_next}
+use Rattle.byte_provider.specs.Issued.{below, length_issued, issued_more}
 
 pub room_is : (s : ByteProvider) (plan : Plan) → has_room s plan ≡ true → (s.count < 4096) × (length (added (bytes_of s) plan) ≤ 32768 - length (bytes_of s))
 room_is s plan h = let p = and_parts _ _ h in (ltb-true _ _ p.0, leb-true _ _ p.1)

@@ -1,5 +1,5 @@
 -- How the bytes in use grow.
-use Rattle.std.proofs.Common.{◌≡◌, ℕ, ◌+◌, ◌-◌, ◌<◌, ◌≤◌, List, [], ◌∷◌, ◌++◌, length, get_or, take, set, sym, refl, ap, ◌∙◌, ap₂, append_assoc, arith, length-append, length-take, length-take-le, get_or-take}
+use Rattle.std.proofs.Common.{◌≡◌, ℕ, ◌+◌, ◌-◌, ◌<◌, ◌≤◌, List, [], ◌∷◌, ◌++◌, length, get_or, take, set, sym, ap, ◌∙◌, ap₂, append_assoc, arith, length-append, length-take, length-take-le, get_or-take}
 use Rattle.std.proofs.lemmas.List.{take_more_set, get_or_append_left}
 use Rattle.byte_provider.specs.declared.table.Table.{Table}
 use Rattle.byte_provider.specs.declared.span.Span.{Span}

@@ -1,9 +1,9 @@
 -- The laws of a provider, for strings of bytes.
-use Rattle.std.specs.Prelude.{◌≡◌, ℕ, zero, suc, ◌+◌, ◌-◌, ◌*◌, ◌/◌, ◌%◌, ◌<◌, ◌≤◌, Bool, true, false, cond, List, [], ◌∷◌, ◌++◌, length, is_some, Some, None, Option, ◌==◌, nat_le, slice_index, slice_index_or, refl}
+use Rattle.std.specs.Prelude.{◌≡◌, ℕ, zero, suc, ◌+◌, ◌*◌, ◌/◌, ◌%◌, ◌<◌, ◌≤◌, Bool, true, false, cond, List, [], ◌∷◌, ◌++◌, length, is_some, Some, None, Option, ◌==◌, nat_le, slice_index, slice_index_or, refl}
 use Rattle.std.proofs.Common.{sym, ap, ap₂, ◌∙◌, arith, length-append, length-take, take_at, drop_at, eqb-true, le-leb}
 use Rattle.std.proofs.lemmas.Bool.{false≢true}
-use Rattle.provider.specs.Algebra.{Halves, Key, shared, public, listed, mated, Mates, Seals, Builds}
-use Rattle.provider.specs.Meaning.{on, stands, Holds}
+use Rattle.provider.specs.Algebra.{Halves, Key, shared, public, listed, mated, Mates, Seals}
+use Rattle.provider.specs.Meaning.{on, Holds}
 use Rattle.byte_provider.specs.declared.store.ByteProvider.{ByteProvider}
 use Rattle.byte_provider.specs.declared.plan.KeyType.{KeyType}
 use Rattle.byte_provider.specs.declared.plan.KeyType.TheVariants.{Shared, Public, Private}
@@ -11,7 +11,7 @@ use Rattle.byte_provider.specs.declared.plan.Shift.{Shift}
 use Rattle.byte_provider.specs.declared.plan.Shift.TheVariants.{Add, Subtract}
 use Rattle.byte_provider.specs.Held.{part, no_span}
 use Rattle.byte_provider.specs.State.{bytes_of, meaning_of}
-use Rattle.byte_provider.specs.Values.{Bytes, join_of, left_of, right_of, type_of, key_type, shift, shifted, sealing, opening, mate_first, body, mate_of, seal_of, open_of, byte_algebra}
+use Rattle.byte_provider.specs.Values.{Bytes, join_of, left_of, right_of, type_of, key_type, shift, shifted, sealing, opening, mate_first, mate_of, seal_of, open_of, byte_algebra}
 use Rattle.byte_provider.specs.Parts.{length_part}
 use Rattle.byte_provider.specs.Small.{small_part}
 use Rattle.byte_provider.specs.Issued.{below, stands_in}

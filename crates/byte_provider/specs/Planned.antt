@@ -1,5 +1,5 @@
 -- Where the value of a handle lies, and what a plan for a making is.
-use Rattle.std.specs.Prelude.{◌≡◌, ℕ, ◌≤◌, true, length, Some, None, Option}
+use Rattle.std.specs.Prelude.{◌≡◌, ℕ, ◌≤◌, length, Some, None, Option}
 use Rattle.provider.specs.declared.Making.{Making}
 use Rattle.provider.specs.Meaning.{stands}
 use Rattle.byte_provider.specs.declared.store.ByteProvider.{ByteProvider}

@@ -1,6 +1,5 @@
 -- What a plan writes.
 use Rattle.std.specs.Prelude.{ℕ, ◌/◌, ◌%◌, ◌<◌, List, [], ◌∷◌, ◌++◌}
-use Rattle.byte_provider.specs.declared.span.Span.{Span}
 use Rattle.byte_provider.specs.declared.plan.Head.{Head}
 use Rattle.byte_provider.specs.declared.plan.Head.TheVariants.{One, Two, Three}
 use Rattle.byte_provider.specs.declared.plan.Plan.{Plan}

@@ -1,5 +1,5 @@
 -- The values of the byte provider, strings of bytes, and what the makings make of them.
-use Rattle.std.specs.Prelude.{◌≡◌, ℕ, ◌+◌, ◌-◌, ◌*◌, ◌/◌, ◌%◌, ◌<◌, ◌≤◌, cond, List, [], ◌∷◌, ◌++◌, length, take, drop, Some, None, Option, ◌==◌, nat_le, slice_index}
+use Rattle.std.specs.Prelude.{ℕ, ◌+◌, ◌-◌, ◌*◌, ◌/◌, ◌%◌, ◌<◌, ◌≤◌, cond, List, [], ◌∷◌, ◌++◌, length, take, drop, Some, None, Option, ◌==◌, nat_le, slice_index}
 use Rattle.provider.specs.Algebra.{Algebra}
 use Rattle.provider.specs.Meaning.{on}
 use Rattle.byte_provider.specs.declared.plan.KeyType.{KeyType}

@@ -28,7 +28,7 @@ pub fn yes_or_no(yes: bool) -> Answer
 
 // Carries out a making.
 pub fn make<P: Provider>(provider: &mut P, making: Making) -> Answer
-    ensures { Made algebra meaning provider.old making result provider.new }
+    ensures { Made P.algebra P.meaning provider.old making result provider.new }
 {
     match perform(provider, making) {
         Ok(handle) => Answer::Handle(handle),

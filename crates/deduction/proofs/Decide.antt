@@ -1,5 +1,5 @@
 -- The tests decide what they test.
-use Rattle.std.proofs.Common.{◌≡◌, Bool, true, false, Decides, refl}
+use Rattle.std.proofs.Common.{◌≡◌, true, false, Decides, refl}
 use mathlib.Core.Bool.{false≢true}
 use Rattle.std.proofs.lemmas.Bool.Decides.{Decides-and}
 use Rattle.deduction.specs.Term.{Kind, party, number, shared, public, table, function, Kind-discrete, Form, pair, sealed, digest, entry, Term, name, built, mate, term_decision, Key, KeyKind, KeyForm, Named, PartsFit}

@@ -1,9 +1,9 @@
 -- A value that is sealed and opened again, step by step.
-use Rattle.std.proofs.Common.{◌≡◌, ℕ, true, ◌⊎◌, is_some as option_is_some, Some, None, Ok, Err, Result, sym, refl, ap, ◌∙◌, ⊎_elim}
+use Rattle.std.proofs.Common.{◌≡◌, ℕ, true, ◌⊎◌, is_some as option_is_some, Some, None, Ok, Err, Result, refl, ◌∙◌, ⊎_elim}
 use Rattle.provider.specs.declared.Making.TheVariants.{Seal, Open, Mate}
 use Rattle.provider.specs.declared.ProviderError.{ProviderError}
 use Rattle.provider.specs.Algebra.{Algebra, Seals}
-use Rattle.provider.specs.Meaning.{Meaning, stands, on, made, Answers, Holds}
+use Rattle.provider.specs.Meaning.{Meaning, stands, made, Answers, Holds}
 use Rattle.provider.specs.Reopening.{Reopened}
 use Rattle.provider.proofs.Steps.{is_some, on_none, full_only, answered, not_granted}
 

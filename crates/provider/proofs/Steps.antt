@@ -1,5 +1,5 @@
 -- What one answer of a provider says: for any algebra and meaning.
-use Rattle.std.proofs.Common.{◌≡◌, ℕ, true, false, is_some as option_is_some, Some, None, Ok, Err, Option, Result, sym, refl, ap, ◌∙◌, MatchResult}
+use Rattle.std.proofs.Common.{◌≡◌, ℕ, true, is_some as option_is_some, Some, None, Ok, Err, Option, Result, sym, refl, ap, ◌∙◌, MatchResult}
 use mathlib.Core.Bool.{false≢true}
 use Rattle.provider.specs.declared.Making.{Making}
 use Rattle.provider.specs.declared.ProviderError.{ProviderError}

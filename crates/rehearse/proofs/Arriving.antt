@@ -1,9 +1,9 @@
 -- What is sealed under a shared key and opened with it arrives.
-use Rattle.std.proofs.Common.{◌≡◌, ℕ, ◌≤◌, Bool, true, false, List, is_some as option_is_some, Some, None, Ok, Option, sym, refl, ap, ◌∙◌, inl, arith}
+use Rattle.std.proofs.Common.{◌≡◌, ℕ, ◌≤◌, Bool, true, false, List, is_some as option_is_some, Some, None, Ok, Option, sym, refl, ◌∙◌, inl, arith}
 use mathlib.Core.Bool.{false≢true}
-use Rattle.provider.specs.declared.Making.TheVariants.{Atom, Seal, Open}
+use Rattle.provider.specs.declared.Making.TheVariants.{Seal, Open}
 use Rattle.provider.specs.Algebra.{Algebra, shared, Mates, Seals}
-use Rattle.provider.specs.Meaning.{Meaning, stands, on, made, Answers, Same, Kept, Holds}
+use Rattle.provider.specs.Meaning.{Meaning, stands, on, Answers, Same, Holds}
 use Rattle.provider.specs.Reopening.{Reopened}
 use Rattle.provider.proofs.Steps.{is_some}
 use Rattle.rehearse.specs.Opening.{Opened}

@@ -1,5 +1,5 @@
 -- Scripts: instructions in order, each with a slot for its result, and which term a slot holds.
-use Rattle.std.specs.Prelude.{ℕ, ◌+◌, Bool, true, false, cond, List, [], ◌∷◌, ◌++◌, Some, None, Option}
+use Rattle.std.specs.Prelude.{ℕ, ◌+◌, Bool, false, cond, List, [], ◌∷◌, ◌++◌, Some, None, Option}
 use Rattle.deduction.specs.Decide.{same_term}
 use Rattle.deduction.specs.Term.{Form, pair, sealed, digest, entry, Term}
 

@@ -1,8 +1,8 @@
 -- The state of a protocol, its calls, and what each call answers and does.
 use Rattle.std.specs.Prelude.{ℕ, zero, suc, ◌+◌, Bool, true, false, cond, not, ◌&&◌, ◌||◌, List, [], ◌∷◌, ◌++◌, length, Some, None, Option, ◌==◌, nat_lt, slice_index_or, slice_set}
 use Rattle.deduction.specs.Decide.{same_term, same_kind, is_key, parts_fit}
-use Rattle.deduction.specs.Term.{Kind, party, number, shared, public, table, function, Kind-discrete, Form, pair, sealed, digest, entry, Term, name}
-use Rattle.deduction.specs.Term.{built, mate, mate_of, term_decision}
+use Rattle.deduction.specs.Term.{Kind, party, number, shared, public, table, function, Form, pair, sealed, digest, entry, Term, name}
+use Rattle.deduction.specs.Term.{built, mate, mate_of}
 use Rattle.rules.specs.Script.{Op, GIVEN, FRESH, FROM, TO, RECV, MATE, LEFT, RIGHT, JOIN, SEAL, DIGEST, ENTRY, OPEN, SAME, SEND, Script, line}
 use Rattle.rules.specs.Script.{find}
 use Rattle.rules.specs.Compose.{compose, composes, missing}

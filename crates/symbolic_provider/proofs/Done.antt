@@ -1,15 +1,14 @@
 -- What each sort of answer does, whole.
-use Rattle.std.proofs.Common.{◌≡◌, ℕ, suc, ◌+◌, ◌<◌, ◌≤◌, Bool, true, false, cond, ◌||◌, ltb, List, [], ◌∷◌, ◌++◌, length, is_some, Some, None, Ok, Err, sym, refl, ap, ◌∙◌, add-one, arith, length-append, le-ltb, lt-ltb, eq-eqb, ne_eqb}
+use Rattle.std.proofs.Common.{◌≡◌, ℕ, ◌+◌, ◌<◌, true, false, ltb, ◌∷◌, length, is_some, Some, None, Ok, Err, sym, refl, ap, ◌∙◌, add-one, arith, le-ltb, lt-ltb, eq-eqb, ne_eqb}
 use mathlib.Core.Bool.{false≢true}
 use Rattle.deduction.specs.Term.{Term}
 use Rattle.provider.specs.declared.Making.{Making}
 use Rattle.provider.specs.declared.ProviderError.TheVariants.{Wrong, Full}
-use Rattle.provider.specs.Meaning.{stands, Answers}
-use Rattle.terms.specs.declared.node.TermNode.{TermNode}
+use Rattle.provider.specs.Meaning.{stands}
 use Rattle.terms.specs.Tree.{tree}
 use Rattle.symbolic_provider.specs.declared.store.SymbolicProvider.{SymbolicProvider}
 use Rattle.symbolic_provider.specs.Outcome.{Done}
-use Rattle.symbolic_provider.specs.State.{nodes_of, issued_below, issued_of, is_held, room, made_of, fits_of}
+use Rattle.symbolic_provider.specs.State.{nodes_of, issued_below, issued_of, room, made_of, fits_of}
 use Rattle.symbolic_provider.specs.Issued.{stands_in, below, length_issued, held_in, held_out, issued_same}
 
 -- a making that is wrong

@@ -1,39 +1,37 @@
 -- Taking apart and opening, and the mates of keys.
-use Rattle.std.proofs.Common.{◌≡◌, ℕ, ◌<◌, ◌≤◌, Bool, true, false, cond, eqb, List, length, is_some, Some, None, Ok, Err, Decides, Option, Result, sym, refl, ap, ◌∙◌, ap₂, ⊎_elim, arith, eqb-true}
+use Rattle.std.proofs.Common.{◌≡◌, ℕ, ◌<◌, ◌≤◌, true, length, is_some, Some, None, Ok, Err, Option, Result, sym, refl, ap, ◌∙◌, ap₂, ⊎_elim, arith}
 use mathlib.Core.Bool.{false≢true}
 use Rattle.std.proofs.lemmas.Bool.{cases_lt}
-use Rattle.deduction.specs.Term.{Term, name, built, mate, shared, public, Key, Asymmetric, Formed, mate_of, opener}
+use Rattle.deduction.specs.Term.{Term, mate, Key, Asymmetric, Formed, mate_of, opener}
 use Rattle.deduction.specs.Decide.{same_term, is_key}
 use Rattle.deduction.proofs.Decide.{same_decides, key_decides}
-use Rattle.provider.specs.declared.Making.{Making}
 use Rattle.provider.specs.declared.Making.TheVariants.{Left, Right, Open, Mate as MATE}
 use Rattle.provider.specs.declared.ProviderError.TheVariants.{Wrong}
 use Rattle.provider.specs.Meaning.{stands, on}
-use Rattle.terms.specs.declared.node.Kind.{Kind}
 use Rattle.terms.specs.declared.node.Kind.TheVariants.{Party, Number, Shared, Public, Table, Function}
 use Rattle.terms.specs.declared.node.Form.{Form}
 use Rattle.terms.specs.declared.node.Form.TheVariants.{Pair, Sealed, Digest, Entry}
 use Rattle.terms.specs.declared.node.TermNode.{TermNode}
 use Rattle.terms.specs.declared.node.TermNode.TheVariants.{Name, Built, Mate}
 use Rattle.terms.specs.declared.node.TermError.{TermError}
-use Rattle.terms.specs.declared.node.TermError.TheVariants.{Unknown, WrongKind, Full}
+use Rattle.terms.specs.declared.node.TermError.TheVariants.{WrongKind}
 use Rattle.terms.specs.declared.node.MateCase.{MateCase}
 use Rattle.terms.specs.declared.node.MateCase.TheVariants.{NoKey, Itself, Inside, Apart}
-use Rattle.terms.specs.Listed.{Mated, Inserted, Unchanged}
-use Rattle.terms.specs.Node.{node_at, mate_case, mate_of_kind, mate_of_form}
+use Rattle.terms.specs.Listed.{Mated, Unchanged}
+use Rattle.terms.specs.Node.{node_at, mate_case}
 use Rattle.terms.specs.Outcome.{MatesBy, Opens, Stands, Inserts}
-use Rattle.terms.specs.Tree.{tree, tree_of, Orderly}
+use Rattle.terms.specs.Tree.{tree, tree_of}
 use Rattle.terms.proofs.Formed.{formed}
 use Rattle.terms.proofs.Listed.{orderly}
 use Rattle.terms.proofs.Trees.{tree_at, tree_is, parts_lower, numbers_apart}
 use Rattle.symbolic_provider.specs.declared.store.SymbolicProvider.{SymbolicProvider}
-use Rattle.symbolic_provider.specs.Makings.{PartsAt, parts_of, form_number, answer_of}
+use Rattle.symbolic_provider.specs.Makings.{PartsAt, parts_of, answer_of}
 use Rattle.symbolic_provider.specs.Outcome.{Done}
 use Rattle.symbolic_provider.specs.State.{nodes_of, issued_of, made_of}
-use Rattle.symbolic_provider.specs.Values.{left_of, right_of, open_of, when, mate_if}
+use Rattle.symbolic_provider.specs.Values.{left_of, right_of, open_of, when}
 use Rattle.symbolic_provider.proofs.Done.{wrong, held}
 use Rattle.symbolic_provider.specs.Issued.{stands_in, stands_out}
-use Rattle.symbolic_provider.proofs.Making.{Makes, inserted, no_fit, on_none}
+use Rattle.symbolic_provider.proofs.Making.{Makes, inserted, no_fit}
 
 none_some : {X Z : Type 0} {x : X} → None ≡ Some x → Z
 none_some e = absurd (false≢true (ap is_some e))

@@ -1,5 +1,5 @@
 -- The record of a number tells the term that the handle stands for.
-use Rattle.std.proofs.Common.{◌≡◌, ℕ, ◌<◌, List, length, Some, None, Option, sym, refl, ap, ◌∙◌, arith}
+use Rattle.std.proofs.Common.{◌≡◌, ℕ, List, length, Some, None, Option, sym, refl, ap, ◌∙◌, arith}
 use Rattle.terms.specs.declared.node.TermNode.{TermNode}
 use Rattle.terms.specs.declared.node.TermNode.TheVariants.{Name, Built, Mate}
 use Rattle.terms.specs.Outcome.{Known, Reads}

@@ -1,8 +1,8 @@
 -- The laws of a provider, for terms.
-use Rattle.std.specs.Prelude.{◌≡◌, ℕ, Bool, true, false, length, is_some, Some, None, refl}
-use Rattle.std.proofs.Common.{sym, ap, ◌∙◌}
+use Rattle.std.specs.Prelude.{◌≡◌, Bool, true, false, length, is_some, Some, refl}
+use Rattle.std.proofs.Common.{ap, ◌∙◌}
 use Rattle.std.proofs.lemmas.Bool.{false≢true}
-use Rattle.deduction.specs.Term.{Kind, party, number, shared, public, table, function, Form, pair, sealed, digest, entry, Term, name, built, mate, mate_of, Formed, Asymmetric}
+use Rattle.deduction.specs.Term.{party, number, shared, public, table, function, pair, sealed, digest, entry, Term, name, built, mate, mate_of, Formed, Asymmetric}
 use Rattle.deduction.specs.Decide.{is_key}
 use Rattle.provider.specs.Algebra.{Key as KeyValue, shared as of-shared, public as of-public, listed as of_entry, mated as of-mate, Mates}
 use Rattle.provider.specs.Meaning.{Holds}

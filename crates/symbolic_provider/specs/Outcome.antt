@@ -1,5 +1,5 @@
 -- The whole outcome of each call of the symbolic provider.
-use Rattle.std.specs.Prelude.{◌≡◌, ℕ, true, false, cond, List, [], ◌∷◌, length, is_some, Some, None, Ok, Err, Result}
+use Rattle.std.specs.Prelude.{◌≡◌, ℕ, true, false, cond, ◌∷◌, length, is_some, Some, None, Ok, Err, Result}
 use Rattle.deduction.specs.Term.{Term}
 use Rattle.provider.specs.declared.Making.{Making}
 use Rattle.provider.specs.declared.ProviderError.{ProviderError}

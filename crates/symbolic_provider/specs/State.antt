@@ -1,5 +1,5 @@
 -- What the symbolic provider means.
-use Rattle.std.specs.Prelude.{ℕ, zero, suc, Bool, false, cond, ◌||◌, List, [], ◌∷◌, length, Some, None, Option, nat_lt}
+use Rattle.std.specs.Prelude.{ℕ, zero, suc, Bool, false, ◌||◌, List, [], ◌∷◌, length, Some, None, Option, nat_lt}
 use Rattle.deduction.specs.Term.{Term}
 use Rattle.deduction.specs.Decide.{same_term}
 use Rattle.provider.specs.declared.Making.{Making}

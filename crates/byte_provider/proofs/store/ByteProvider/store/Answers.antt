@@ -1,4 +1,4 @@
-use Rattle.std.proofs.Common.{◌≡◌, ◌<◌, ◌≤◌, length, refl, ap, ◌∙◌, arith, length-append, length-set}
+use Rattle.std.proofs.Common.{◌<◌, ◌≤◌, length, ap, ◌∙◌, arith, length-append, length-set}
 use Rattle.byte_provider.specs.Held.{held}
 use Rattle.byte_provider.specs.Plans.{added}
 use Rattle.byte_provider.specs.State.{bytes_of}

@@ -1,4 +1,4 @@
-use Rattle.std.proofs.Common.{◌≡◌, ◌++◌, length, append_assoc, arith, length-append}
+use Rattle.std.proofs.Common.{◌++◌, append_assoc, arith, length-append}
 use Rattle.byte_provider.specs.Held.{held, part}
 use Rattle.byte_provider.specs.Plans.{head_bytes}
 use Rattle.byte_provider.specs.Writing.{Added}

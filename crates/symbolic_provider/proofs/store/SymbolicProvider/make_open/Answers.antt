@@ -1,4 +1,4 @@
-use Rattle.std.proofs.Common.{◌≡◌, Some, sym}
+use Rattle.std.proofs.Common.{Some}
 use Rattle.terms.specs.Outcome.{Opens}
 use Rattle.symbolic_provider.specs.State.{nodes_of}
 use Rattle.symbolic_provider.proofs.Parts.{open_unsealed, open_done, open_other, open_none}
