@@ -1,14 +1,14 @@
 -- Composing by numbers is composing by the rules.
-use Rattle.std.proofs.Common.{◌≡◌, ℕ, ◌+◌, ◌<◌, ◌≤◌, List, [], ◌∷◌, ◌++◌, length, Some, None, Ok, Err, Option, Result, sym, refl, ap, ◌∙◌, ap₂, append_assoc, append-nil, arith, length-append}
+use Rattle.std.proofs.Common.{◌≡◌, ℕ, ◌<◌, ◌≤◌, List, [], ◌∷◌, ◌++◌, length, Some, None, Ok, Err, Option, Result, sym, refl, ap, ◌∙◌, ap₂, append_assoc, append-nil, arith, length-append}
 use Rattle.deduction.specs.Term.{Form, Term, name, built, mate}
 use Rattle.terms.specs.declared.node.Form.{Form as NodeForm}
 use Rattle.terms.specs.declared.node.TermNode.{TermNode}
 use Rattle.terms.specs.declared.node.TermNode.TheVariants.{Name, Built, Mate}
 use Rattle.terms.specs.Node.{node_at}
-use Rattle.terms.specs.Tree.{tree, tree_of, form_of, Orderly}
-use Rattle.terms.proofs.Trees.{tree_at, tree_is, parts_lower}
+use Rattle.terms.specs.Tree.{tree, form_of, Orderly}
+use Rattle.terms.proofs.Trees.{tree_at, parts_lower}
 use Rattle.rules.specs.Script.{Script as RuleScript, find, line, ◌then◌, builder}
-use Rattle.rules.specs.Compose.{Composed, composed_at, compose, both, whole, leaf, or_both}
+use Rattle.rules.specs.Compose.{Composed, composed_at, compose, both, whole, leaf}
 use Rattle.rules.specs.Grows.{Builds}
 use Rattle.rules.proofs.Compose.{Any, any_within, composed_makes}
 use Rattle.rules.proofs.Grows.{grows_begins}
@@ -16,10 +16,10 @@ use Rattle.scripts.specs.declared.instruction.Line.{Line}
 use Rattle.scripts.specs.declared.instruction.ScriptError.{ScriptError}
 use Rattle.scripts.specs.declared.instruction.ScriptError.TheVariants.{Full, Missing}
 use Rattle.scripts.specs.declared.script.Script.{Script}
-use Rattle.scripts.specs.Composing.{view, AllKnown, Begins, Puts}
-use Rattle.scripts.specs.Lines.{slot_of, script_of, line_of, building}
+use Rattle.scripts.specs.Composing.{view, LineBelow, AllKnown, AllNamed, Begins, Puts}
+use Rattle.scripts.specs.Lines.{slot_of, script_of, building}
 use Rattle.scripts.specs.View.{written, Pushed}
-use Rattle.scripts.proofs.View.{length_view, view_append, view_builder, known_more, slot_find}
+use Rattle.scripts.proofs.View.{length_view, view_append, view_builder, named_more, known_more, slot_find}
 
 pub begins_here : (ls : List Line) → Begins ls ls
 begins_here ls = ([], sym (append-nil ls))
@@ -139,3 +139,9 @@ pub pushed_begins : (s s1 : Script) (l : Line) (r : Result ℕ ScriptError) → 
 pushed_begins s s1 l (Ok n) p = (l ∷ [], p.2)
 pushed_begins s s1 l (Err Full) p = ([], ap written p.1 ∙ sym (append-nil (written s)))
 pushed_begins s s1 l (Err (Missing m)) p = absurd p
+
+-- a push keeps every named term among the first n, whether there is room for it or not
+pub pushed_named : (n : ℕ) (s s1 : Script) (l : Line) (r : Result ℕ ScriptError) → Pushed s l r s1 → LineBelow n l → AllNamed n (written s) → AllNamed n (written s1)
+pushed_named n s s1 l (Ok m) p b k = rw p.2 (named_more n (written s) l k b)
+pushed_named n s s1 l (Err Full) p b k = rw p.1 k
+pushed_named n s s1 l (Err (Missing m)) p b k = absurd p

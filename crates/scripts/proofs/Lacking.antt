@@ -1,5 +1,5 @@
 -- What is missing by numbers is what is missing by the rules.
-use Rattle.std.proofs.Common.{◌≡◌, ℕ, ◌<◌, ◌≤◌, Bool, true, false, ◌⊎◌, List, [], ◌∷◌, ◌++◌, length, get_or, take, is_some, Some, None, Ok, Err, Option, Result, sym, refl, ap, ◌∙◌, inl, inr, ⊎_elim, arith, length-append, take_at}
+use Rattle.std.proofs.Common.{◌≡◌, ℕ, ◌<◌, ◌≤◌, Bool, true, false, ◌⊎◌, List, [], ◌∷◌, length, get_or, take, is_some, Some, None, Err, Option, sym, refl, ap, ◌∙◌, inl, inr, arith, take_at}
 use mathlib.Core.Bool.{false≢true}
 use Rattle.deduction.specs.Term.{Term, name, built, mate, In, among}
 use Rattle.deduction.specs.Compose.{Composable}
@@ -10,7 +10,7 @@ use Rattle.terms.specs.Tree.{tree, Orderly}
 use Rattle.terms.proofs.Composed.{held_number, number_held}
 use Rattle.terms.proofs.Missing.{missing_composable}
 use Rattle.rules.specs.Script.{Script as RuleScript, find, held, holding}
-use Rattle.rules.specs.Compose.{Composed, compose, missing, unless_found, or_else}
+use Rattle.rules.specs.Compose.{Composed, compose, missing, or_else}
 use Rattle.rules.proofs.Compose.{composes_decides, missing_right, MissingRight}
 use Rattle.rules.proofs.Find.{find_holds, held_find, holds_held}
 use Rattle.scripts.specs.declared.instruction.Line.{Line}
@@ -18,7 +18,7 @@ use Rattle.scripts.specs.declared.instruction.ScriptError.{ScriptError}
 use Rattle.scripts.specs.declared.instruction.ScriptError.TheVariants.{Full, Missing}
 use Rattle.scripts.specs.declared.script.Script.{Script}
 use Rattle.scripts.specs.Composing.{view, Below, AllKnown, Begins, HeldMarks, Lacks, Puts, Composes}
-use Rattle.scripts.specs.Lines.{slot_of, held_of, script_of}
+use Rattle.scripts.specs.Lines.{held_of, script_of}
 use Rattle.scripts.specs.View.{written}
 use Rattle.scripts.proofs.View.{slot_find}
 

@@ -1,24 +1,23 @@
 -- What is taken from a term by numbers is what the rules take.
-use Rattle.std.proofs.Common.{◌≡◌, ℕ, zero, suc, ◌+◌, ◌<◌, ◌≤◌, Bool, true, false, cond, ◌⊎◌, List, [], ◌∷◌, ◌++◌, length, get_or, take, drop, is_some, Some, None, Option, sym, refl, ap, ◌∙◌, subst, inl, inr, add-one, arith, length-take-le, drop-cons, get_or-take}
+use Rattle.std.proofs.Common.{◌≡◌, ℕ, zero, suc, ◌+◌, ◌<◌, ◌≤◌, Bool, true, false, cond, ◌⊎◌, List, [], ◌∷◌, length, get_or, drop, is_some, Some, None, Option, sym, refl, ap, ◌∙◌, subst, inl, inr, add-one, arith, length-take-le, drop-cons, get_or-take}
 use mathlib.Core.Bool.{false≢true}
 use lib.Seq.{drop-nil}
-use Rattle.deduction.specs.Term.{party, number, shared, public, table, function, entry, Term, name, built, mate, opener, Key, Formed, In}
+use Rattle.deduction.specs.Term.{party, number, shared, public, table, function, Term, name, built, mate, opener, Key, Formed}
 use Rattle.terms.specs.declared.node.Form.{Form}
 use Rattle.terms.specs.declared.node.Form.TheVariants.{Pair, Sealed, Digest, Entry}
 use Rattle.terms.specs.declared.node.TermNode.{TermNode}
 use Rattle.terms.specs.declared.node.TermNode.TheVariants.{Name, Built, Mate}
 use Rattle.terms.specs.Node.{node_at}
 use Rattle.terms.specs.Outcome.{Opens}
-use Rattle.terms.specs.Tree.{tree, tree_of, form_of, kind_of, Orderly}
+use Rattle.terms.specs.Tree.{tree, form_of, Orderly}
 use Rattle.terms.proofs.Formed.{formed}
 use Rattle.terms.proofs.Trees.{tree_at, parts_lower, inside_lower}
-use Rattle.rules.specs.Script.{LEFT, RIGHT, Script as RuleScript, line, ◌then◌, find, held}
+use Rattle.rules.specs.Script.{LEFT, RIGHT, Script as RuleScript, line, ◌then◌, find}
 use Rattle.rules.specs.Compose.{Composed, compose, composes, leaf}
-use Rattle.rules.specs.Saturate.{opened, take_form, take_term, take_held, first_of, take_from, take_apart}
+use Rattle.rules.specs.Saturate.{opened, take_term, take_held, first_of, take_from, take_apart}
 use Rattle.rules.proofs.Find.{find_holds, holds_held}
 use Rattle.scripts.specs.declared.instruction.Line.{Line}
 use Rattle.scripts.specs.declared.instruction.Taking.{Taking}
-use Rattle.scripts.specs.declared.instruction.Taking.TheVariants.{LeftHalf, RightHalf, Content}
 use Rattle.scripts.specs.declared.script.Script.{Script}
 use Rattle.scripts.specs.Composing.{view, Below, LineBelow, AllNamed}
 use Rattle.scripts.specs.Holding.{no_line}

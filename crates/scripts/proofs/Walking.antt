@@ -1,10 +1,10 @@
 -- Walking by numbers is walking by the rules.
-use Rattle.std.proofs.Common.{◌≡◌, ℕ, ◌+◌, ◌<◌, ◌≤◌, true, false, List, [], ◌∷◌, ◌++◌, length, is_some, Some, None, Ok, Err, Option, Result, sym, refl, ap, ◌∙◌, subst, ap₂, arith, length-append}
+use Rattle.std.proofs.Common.{◌≡◌, ℕ, ◌<◌, ◌≤◌, true, false, List, [], ◌∷◌, length, is_some, Some, None, Ok, Err, Option, Result, sym, refl, ap, ◌∙◌, subst, ap₂, arith, length-append}
 use mathlib.Core.Bool.{false≢true}
 use Rattle.deduction.specs.Term.{Form, pair, sealed, digest, entry, Term, name, built, mate, opener, Key, Formed, among}
 use Rattle.deduction.proofs.Compose.{composable_map}
 use Rattle.terms.specs.declared.node.Form.{Form as NodeForm}
-use Rattle.terms.specs.declared.node.Form.TheVariants.{Pair, Sealed, Digest, Entry}
+use Rattle.terms.specs.declared.node.Form.TheVariants.{Pair, Sealed}
 use Rattle.terms.specs.declared.node.TermNode.{TermNode}
 use Rattle.terms.specs.declared.node.TermNode.TheVariants.{Name, Built, Mate as A-MATE}
 use Rattle.terms.specs.Node.{node_at}
@@ -22,12 +22,11 @@ use Rattle.rules.proofs.Nth.{some_is}
 use Rattle.rules.proofs.Begins.{begins_length, compose_begins, walk_begins}
 use Rattle.scripts.specs.declared.instruction.Instruction.{Instruction}
 use Rattle.scripts.specs.declared.instruction.Instruction.TheVariants.{Left, Right, Open, Same}
-use Rattle.scripts.specs.declared.instruction.Line.{Line}
 use Rattle.scripts.specs.declared.instruction.ScriptError.{ScriptError}
 use Rattle.scripts.specs.declared.instruction.ScriptError.TheVariants.{Full, Missing}
 use Rattle.scripts.specs.declared.script.Script.{Script}
-use Rattle.scripts.specs.Composing.{view, OpBelow, AllNamed, Puts, Lacks}
-use Rattle.scripts.specs.Lines.{op_of, line_of, script_of}
+use Rattle.scripts.specs.Composing.{view, AllNamed, Puts, Lacks}
+use Rattle.scripts.specs.Lines.{op_of}
 use Rattle.scripts.specs.View.{written, Pushed}
 use Rattle.scripts.specs.Writing.{Writes, Unlocks}
 use Rattle.scripts.proofs.View.{length_view}
@@ -69,7 +68,7 @@ module _ (ts : List TermNode) (s : Script) (op : Instruction) (t : ℕ) (c : Com
     second_stop Full s2 p = long_compared (p c then_c)
     second_stop (Missing m) s2 p = let z : ◌≡◌ {A = ℕ} 0 1 = cc (then_c, p) in absurd (omega arith)
 
-    module _ (m : ℕ) (s2 : Script) (two : Puts ts s1 t (Ok m) s2) where
+    module _ (m : ℕ) (s2 : Script) (two : Puts ts s1 t (Ok m) s2) (named : AllNamed (length ts) (written s2)) where
       last : compared (length (view ts s)) c ≡ (view ts s2 then line (SAME n m) None)
       last =
           let q : c ≡ composed_at m (view ts s2) = some_is (sym then_c ∙ two.0) in
@@ -77,12 +76,21 @@ module _ (ts : List TermNode) (s : Script) (op : Instruction) (t : ℕ) (c : Com
           ap₂ (λ i d. compared i d) k q
 
       pub compared_all : (r : Result ℕ ScriptError) (s3 : Script) → Pushed s2 (record { op = Same n m; holds = None }) r s3 → Writes ts (compared (length (view ts s)) c) r s3
-      compared_all r s3 p = subst (λ w. Writes ts w r s3) (sym last) (pushed_writes ts s2 s3 (record { op = Same n m; holds = None }) r p two.1 (tt, tt))
+      compared_all r s3 p = subst (λ w. Writes ts w r s3) (sym last) (pushed_writes ts s2 s3 (record { op = Same n m; holds = None }) r p named (tt, tt))
 
 -- the same outcome under another answer
 pub writes_unit : (ts : List TermNode) (w : RuleScript) (x : ScriptError) (s : Script) → Writes {A = ℕ} ts w (Err x) s → Writes {A = Unit {0}} ts w (Err x) s
 writes_unit ts w Full s p = p
 writes_unit ts w (Missing m) s p = p
+
+-- whether something is missing says whether the term can be composed
+pub lacks_none : (ts : List TermNode) (s : Script) (t : ℕ) (r : Option ℕ) → is_some r ≡ false → Lacks ts s t r → (c : Composed) × (compose (view ts s) (tree ts t) ≡ Some c)
+lacks_none ts s t None e l = l
+lacks_none ts s t (Some m) e l = absurd (false≢true (sym e))
+
+pub lacks_some : (ts : List TermNode) (s : Script) (t : ℕ) (r : Option ℕ) → is_some r ≡ true → Lacks ts s t r → compose (view ts s) (tree ts t) ≡ None
+lacks_some ts s t None e l = absurd (false≢true e)
+lacks_some ts s t (Some m) e l = l.2
 
 -- the opener of a key
 module _ (ts : List TermNode) (ok : Orderly ts) (s : Script) (key : ℕ) (lk : key < length ts) (is_key : Key (tree ts key)) (known : AllNamed (length ts) (written s)) where
@@ -90,13 +98,13 @@ module _ (ts : List TermNode) (ok : Orderly ts) (s : Script) (key : ℕ) (lk : k
   no_opener none = (unopened ts ok (view ts s) (held_in ts s known) key lk is_key none, refl)
 
   module _ (o : ℕ) (opens : Opens ts key (Some o)) where
-    pub opener_missing : (m : ℕ) → Lacks ts s o (Some m) → Unlocks ts s key (Ok None) s
-    opener_missing m l = (ap (compose (view ts s)) (sym opens.3) ∙ l.2, refl)
+    pub opener_missing : (r : Option ℕ) → is_some r ≡ true → Lacks ts s o r → Unlocks ts s key (Ok None) s
+    opener_missing r e l = (ap (compose (view ts s)) (sym opens.3) ∙ lacks_some ts s o r e l, refl)
 
-    pub opener_put : (n : ℕ) (s1 : Script) → Puts ts s o (Ok n) s1 → Unlocks ts s key (Ok (Some n)) s1
-    opener_put n s1 p = (ap (compose (view ts s)) (sym opens.3) ∙ p.0, p.1)
+    pub opener_put : (n : ℕ) (s1 : Script) → Puts ts s o (Ok n) s1 → AllNamed (length ts) (written s1) → Unlocks ts s key (Ok (Some n)) s1
+    opener_put n s1 p k = (ap (compose (view ts s)) (sym opens.3) ∙ p.0, k)
 
-    pub opener_stopped : (x : ScriptError) (s1 : Script) → Lacks ts s o None → Puts ts s o (Err x) s1 → Unlocks ts s key (Err x) s1
+    pub opener_stopped : (x : ScriptError) (s1 : Script) → ((c : Composed) × (compose (view ts s) (tree ts o) ≡ Some c)) → Puts ts s o (Err x) s1 → Unlocks ts s key (Err x) s1
     opener_stopped Full s1 l p = (l.0, ap (compose (view ts s)) (sym opens.3) ∙ l.1, p l.0 l.1)
     opener_stopped (Missing m) s1 l p = let z : ◌≡◌ {A = ℕ} 0 1 = cc (l.1, p) in absurd (omega arith)
 
@@ -231,15 +239,6 @@ module _ (ts : List TermNode) (ok : Orderly ts) (s : Script) (op : Instruction) 
             → Writes ts (walk (view ts s2) (op_of (tree ts) (Open n o)) (tree ts a)) r s3 → Writes ts goal r s3
         content_walk o s2 u r s3 w =
             subst (λ z. Writes ts z r s3) (sym (sealed_walk ∙ ap (λ p. unlocked (view ts s1) p (λ v i. walk v (OPEN n i) (tree ts a))) u.0)) w
-
--- whether something is missing says whether the term can be composed
-pub lacks_none : (ts : List TermNode) (s : Script) (t : ℕ) (r : Option ℕ) → is_some r ≡ false → Lacks ts s t r → (c : Composed) × (compose (view ts s) (tree ts t) ≡ Some c)
-lacks_none ts s t None e l = l
-lacks_none ts s t (Some m) e l = absurd (false≢true (sym e))
-
-pub lacks_some : (ts : List TermNode) (s : Script) (t : ℕ) (r : Option ℕ) → is_some r ≡ true → Lacks ts s t r → compose (view ts s) (tree ts t) ≡ None
-lacks_some ts s t None e l = absurd (false≢true e)
-lacks_some ts s t (Some m) e l = l.2
 
 -- the walk of a term that can be composed
 pub walk_known : (v : RuleScript) (op : Op) (t : Term) (c : Composed) → compose (v then line op None) t ≡ Some c → compared (length v) c ≡ walk v op t

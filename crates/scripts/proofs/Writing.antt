@@ -1,12 +1,10 @@
 -- Writing line by line, and what is too long.
-use Rattle.std.proofs.Common.{◌≡◌, ℕ, ◌+◌, ◌<◌, ◌≤◌, List, [], ◌∷◌, ◌++◌, length, take, Some, None, Ok, Err, Option, Result, sym, refl, ap, ◌∙◌, subst, arith, length-append, length-take-le}
-use Rattle.deduction.specs.Term.{Term}
+use Rattle.std.proofs.Common.{◌≡◌, ℕ, ◌<◌, ◌≤◌, List, [], ◌∷◌, length, take, Some, None, Ok, Err, Option, Result, sym, refl, ap, ◌∙◌, subst, arith, length-append, length-take-le}
 use Rattle.terms.specs.declared.node.TermNode.{TermNode}
 use Rattle.terms.specs.Tree.{tree}
 use Rattle.rules.specs.Script.{OPEN, Script as RuleScript, line, ◌then◌}
-use Rattle.rules.specs.Compose.{Composed, composed_at, compose}
+use Rattle.rules.specs.Compose.{Composed, compose}
 use Rattle.rules.specs.Saturate.{opened, take_apart, Saturates, done, more, saturate}
-use Rattle.rules.specs.Grows.{Begins as RuleBegins}
 use Rattle.rules.proofs.Saturate.{saturate_saturates, saturates_one}
 use Rattle.rules.proofs.Nth.{some_is}
 use Rattle.rules.proofs.Begins.{begins_length, saturates_begins}
@@ -20,14 +18,14 @@ use Rattle.scripts.specs.Lines.{line_of, script_of}
 use Rattle.scripts.specs.View.{written, Pushed}
 use Rattle.scripts.specs.declared.instruction.Taking.{Taking}
 use Rattle.scripts.specs.Writing.{Writes, Wrote, Longer, taken, Takes}
-use Rattle.scripts.proofs.View.{length_view, view_append, known_more}
+use Rattle.scripts.proofs.View.{length_view, view_append, named_more}
 use Rattle.scripts.proofs.Lacking.{cut_back}
 
 -- a pushed line is written by the rules' line
 pub pushed_writes : (ts : List TermNode) (s s1 : Script) (l : Line) (r : Result ℕ ScriptError) → Pushed s l r s1 → AllNamed (length ts) (written s) → LineBelow (length ts) l
     → Writes ts (view ts s then line_of (tree ts) l) r s1
 pushed_writes ts s s1 l (Ok n) p k b =
-    (ap (script_of (tree ts)) p.2 ∙ view_append (tree ts) (written s) (l ∷ []), rw p.2 (known_more (length ts) (written s) l k b))
+    (ap (script_of (tree ts)) p.2 ∙ view_append (tree ts) (written s) (l ∷ []), rw p.2 (named_more (length ts) (written s) l k b))
 pushed_writes ts s s1 l (Err Full) p k b =
     omega (arith, p.0, length_view (tree ts) (written s), length-append (view ts s) (line_of (tree ts) l ∷ []))
 pushed_writes ts s s1 l (Err (Missing m)) p k b = absurd p
@@ -69,11 +67,11 @@ module _ (ts : List TermNode) (s : Script) (slot o c : ℕ) (w : RuleScript) (e 
           omega (arith, x, ap length y, length-append d.script (line (OPEN slot d.slot) (Some (tree ts c)) ∷ []))
   open_stopped (Missing m) s1 p = let z : ◌≡◌ {A = ℕ} 0 1 = cc (e, ap (opened slot (tree ts c)) p) in absurd (omega arith)
 
-  pub open_written : (i : ℕ) (s1 : Script) → Puts ts s o (Ok i) s1 → c < length ts → (r : Result ℕ ScriptError) (s2 : Script)
+  pub open_written : (i : ℕ) (s1 : Script) → Puts ts s o (Ok i) s1 → AllNamed (length ts) (written s1) → c < length ts → (r : Result ℕ ScriptError) (s2 : Script)
       → Pushed s1 (record { op = Open slot i; holds = Some c }) r s2 → Writes ts w r s2
-  open_written i s1 p lc r s2 q =
+  open_written i s1 p k lc r s2 q =
       let y : (view ts s1 then line (OPEN slot i) (Some (tree ts c))) ≡ w = cc (e, ap (opened slot (tree ts c)) p.0) in
-      subst (λ u. Writes ts u r s2) y (pushed_writes ts s1 s2 (record { op = Open slot i; holds = Some c }) r q p.1 (lc, tt))
+      subst (λ u. Writes ts u r s2) y (pushed_writes ts s1 s2 (record { op = Open slot i; holds = Some c }) r q k (lc, tt))
 
 -- what is too long after a step is too long when saturated
 pub saturate_long : (v0 v w : RuleScript) → ((u : RuleScript) → Saturates v u → Saturates v0 u) → take_apart v ≡ Some w → 512 < length w → 512 < length (saturate v0)

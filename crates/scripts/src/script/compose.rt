@@ -1,7 +1,7 @@
 // Composing a term from what the slots hold.
 ghost use Rattle.std.specs.Prelude.{◌≡◌, ℕ, ◌<◌, false, length, slice_index_or};
 ghost use Rattle.terms.specs.Listed.{listed};
-ghost use Rattle.scripts.specs.Composing.{AllKnown, Begins, Composes, HeldMarks, Lacks, Marked, Parts, Puts};
+ghost use Rattle.scripts.specs.Composing.{AllKnown, AllNamed, Begins, Composes, HeldMarks, Lacks, Marked, Parts, Puts};
 ghost use Rattle.scripts.specs.View.{written};
 
 use crate::instruction::{ScriptError, Slot, builder};
@@ -53,6 +53,7 @@ impl Script {
     pub(super) fn put(&mut self, terms: &Terms<512>, term: TermId) -> Result<Slot, ScriptError>
         ensures begins { Begins (written self.old) (written self.new) }
         ensures puts { term < length (listed terms.now) → AllKnown (length (listed terms.now)) (written self.old) → Puts (listed terms.now) self.old term result self.new }
+        ensures names { AllNamed (length (listed terms.now)) (written self.old) → AllNamed (length (listed terms.now)) (written self.new) }
     {
         if let Some(slot) = self.slot_of(term) {
             return Ok(slot);
@@ -78,7 +79,8 @@ impl Script {
         terms: &Terms<512>,
         term: TermId,
     ) -> Result<Slot, ScriptError>
-        ensures { term < length (listed terms.now) → AllKnown (length (listed terms.now)) (written self.old) → Composes (listed terms.now) self.old term result self.new }
+        ensures composes { term < length (listed terms.now) → AllKnown (length (listed terms.now)) (written self.old) → Composes (listed terms.now) self.old term result self.new }
+        ensures names { AllNamed (length (listed terms.now)) (written self.old) → AllNamed (length (listed terms.now)) (written self.new) }
     {
         if let Some(lacking) = self.missing(terms, term) {
             return Err(ScriptError::Missing(lacking));

@@ -14,9 +14,11 @@ use crate::script::Script;
 use terms::{TermId, Terms};
 
 impl Script {
-    // Composes a term: the slot that holds it, or its parts in order and then the whole.
+    // Composes a term: the slot that holds it, or its parts in order and then the whole. A script that names only
+    // terms of the table does so afterwards too.
     pub fn compose(&mut self, terms: &Terms<512>, term: TermId) -> Result<Slot, ScriptError>
-        ensures { term < length (listed terms.now) → AllKnown (length (listed terms.now)) (written self.old) → Composes (listed terms.now) self.old term result self.new }
+        ensures composes { term < length (listed terms.now) → AllKnown (length (listed terms.now)) (written self.old) → Composes (listed terms.now) self.old term result self.new }
+        ensures names { AllNamed (length (listed terms.now)) (written self.old) → AllNamed (length (listed terms.now)) (written self.new) }
     {
         self.compose_or_cut(terms, term)
     }

@@ -4,6 +4,7 @@ use Rattle.terms.specs.Listed.{listed}
 use Rattle.scripts.specs.declared.instruction.Instruction.TheVariants.{Same}
 use Rattle.scripts.specs.declared.instruction.Line.{Line}
 use Rattle.scripts.specs.View.{written}
+use Rattle.scripts.proofs.View.{named_known}
 use Rattle.scripts.proofs.Composing.{begins_on, pushed_begins}
 use Rattle.scripts.proofs.Writing.{pushed_writes}
 use Rattle.scripts.proofs.Walking.{first_stop, second_stop, compared_all, writes_unit}
@@ -38,7 +39,7 @@ returns-in_err-made c =
       begins = begins_on (written s) (written s1) (written s2) (pushed_begins s s1 l (Ok n) p) w.begins;
       compares = λ lt k b m e.
           let one = pushed_writes ts s s1 l (Ok n) p k (tt, b) in
-          rw (q.1, q.2) (second_stop ts s c.args.op c.args.term m e n s1 p.0 one.0 c.in_err-made.field-0.0 s2 (w.puts lt one.1));
+          rw (q.1, q.2) (second_stop ts s c.args.op c.args.term m e n s1 p.0 one.0 c.in_err-made.field-0.0 s2 (w.puts lt (named_known _ _ one.1)));
     }
 
 pub returns-in_err-push : goal.returns-in_err-push
@@ -62,7 +63,7 @@ returns-in_err-push c =
       compares = λ lt k b m e.
           let one = pushed_writes ts s s1 l (Ok n) p k (tt, b) in
           rw (q.1, q.2) (writes_unit ts _ x s3
-          (compared_all ts s c.args.op c.args.term m e n s1 p.0 one.0 made s2 (w.puts lt one.1) (Err x) s3 z));
+          (compared_all ts s c.args.op c.args.term m e n s1 p.0 one.0 made s2 (w.puts lt (named_known _ _ one.1)) (w.names one.1) (Err x) s3 z));
     }
 
 pub returns : goal.returns
@@ -84,5 +85,5 @@ returns c =
       begins = begins_on (written s) (written s2) (written s3) (begins_on (written s) (written s1) (written s2) (pushed_begins s s1 l (Ok n) p) w.begins) (pushed_begins s2 s3 l2 (Ok y) z);
       compares = λ lt k b m e.
           let one = pushed_writes ts s s1 l (Ok n) p k (tt, b) in
-          compared_all ts s c.args.op c.args.term m e n s1 p.0 one.0 made s2 (w.puts lt one.1) (Ok y) s3 z;
+          compared_all ts s c.args.op c.args.term m e n s1 p.0 one.0 made s2 (w.puts lt (named_known _ _ one.1)) (w.names one.1) (Ok y) s3 z;
     }

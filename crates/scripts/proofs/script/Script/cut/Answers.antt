@@ -1,4 +1,4 @@
-use Rattle.std.proofs.Common.{◌≤◌, length, sym, arith, length-take, take_all, take-take}
+use Rattle.std.proofs.Common.{sym, arith, length-take, take_all, take-take}
 use Rattle.scripts.specs.View.{written}
 use Rattle.scripts.proofs.script.Script.cut.Goals as goal
 

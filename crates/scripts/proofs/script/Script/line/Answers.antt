@@ -1,4 +1,4 @@
-use Rattle.std.proofs.Common.{Some, sym, ap, ◌∙◌, arith, length-take, length-take-le, get_or-take}
+use Rattle.std.proofs.Common.{Some, sym, ap, ◌∙◌, arith, length-take-le, get_or-take}
 use Rattle.rules.proofs.Nth.{nth_at, nth_past}
 use Rattle.scripts.specs.Holding.{no_line}
 use Rattle.scripts.specs.View.{written}

@@ -1,4 +1,4 @@
-use Rattle.std.proofs.Common.{◌≡◌, ◌+◌, ◌≤◌, length, Some, sym, ap, ◌∙◌, arith, length-take, length-take-le, get_or-take, below_more}
+use Rattle.std.proofs.Common.{◌≡◌, length, Some, sym, ap, ◌∙◌, arith, length-take-le, get_or-take, below_more}
 use Rattle.scripts.specs.Holding.{no_line, NoneBelow}
 use Rattle.scripts.specs.Lines.{is_number}
 use Rattle.scripts.specs.View.{written}
