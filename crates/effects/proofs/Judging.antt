@@ -20,8 +20,9 @@ use Rattle.rules.specs.Effects.{freshen, freshens}
 use Rattle.rules.proofs.Compose.{composes_decides, missing_right, MissingRight}
 use Rattle.rules.proofs.Find.{find_holds, holds_held, held_append, held_last, held_then}
 use Rattle.scripts.specs.declared.script.Script.{Script}
-use Rattle.scripts.specs.Composing.{view, AllNamed, HeldMarks}
+use Rattle.scripts.specs.Composing.{view, AllKnown, AllNamed, HeldMarks}
 use Rattle.scripts.specs.View.{written}
+use Rattle.scripts.proofs.View.{named_known}
 use Rattle.scripts.proofs.Lacking.{composable_composed, to_marks, from_marks}
 use Rattle.effects.specs.Sending.{marked_from, marked_trees, NamesMarked, MatesKnown, is_mate_of, FreshMarked, LacksFresh}
 use Rattle.effects.proofs.Freshening.{public_or_not, freshen_public, freshen_plain}
@@ -163,6 +164,9 @@ module _ (v : RuleScript) (hs : List Term) (same : (u : Term) → In u (held v) 
 -- marks after the fresh names
 module _ (ts : List TermNode) (ok : Orderly ts) (few : length ts ≤ 512) (s : Script) (known : AllNamed (length ts) (written s)) (before : List Bool) (marked : HeldMarks (written s) before)
     (fresh after : List Bool) (more : FreshMarked ts fresh before after) (names : NamesMarked ts fresh) (mates : MatesKnown ts fresh) where
+  held_known : AllKnown (length ts) (written s)
+  held_known = named_known (length ts) (written s) known
+
   is_marked_lem : (m : ℕ) → m < length ts → (get_or before m false || (get_or fresh m false || is_mate_of fresh (node_at ts m))) ≡ true → In (tree ts m) (held_terms ts after)
   is_marked_lem m l e = number_held ts after m l (more.marks m l ∙ e)
 
@@ -174,7 +178,7 @@ module _ (ts : List TermNode) (ok : Orderly ts) (few : length ts ≤ 512) (s : S
 
       go : In u (held (view ts s)) ⊎ ((t : Term) × In t (marked_trees ts fresh) × With t u) → In u (held_terms ts after)
       go (inl x) =
-          let w = held_number ts before u (to_marks ts ok few s known before marked u x) in
+          let w = held_number ts before u (to_marks ts ok few s held_known before marked u x) in
           subst (λ t. In t (held_terms ts after)) w.3 (is_marked_lem w.0 w.1 (or_left (get_or before w.0 false) (get_or fresh w.0 false || is_mate_of fresh (node_at ts w.0)) w.2))
       go (inr (t, x, inl e)) =
           let w = name_of t x in
@@ -219,7 +223,7 @@ module _ (ts : List TermNode) (ok : Orderly ts) (few : length ts ≤ 512) (s : S
           new (inr f) = by_node (node_at ts m) refl f
 
           go : (get_or before m false ≡ true) ⊎ ((get_or fresh m false || is_mate_of fresh (node_at ts m)) ≡ true) → In (tree ts m) (held (freshens (view ts s) (marked_trees ts fresh)))
-          go (inl b) = freshens_keep (marked_trees ts fresh) (view ts s) (tree ts m) (from_marks ts ok few s known before marked (tree ts m) (number_held ts before m l b))
+          go (inl b) = freshens_keep (marked_trees ts fresh) (view ts s) (tree ts m) (from_marks ts ok few s held_known before marked (tree ts m) (number_held ts before m l b))
           go (inr b) = new (or_cases (get_or fresh m false) (is_mate_of fresh (node_at ts m)) b)
 
   pub lacks_fresh : (t : ℕ) → t < length ts → (r : Option ℕ) → Misses ts after t r → LacksFresh ts (view ts s) (marked_trees ts fresh) (tree ts t) r

@@ -45,6 +45,13 @@ knows_unknown v t e = ap (λ o. cond (is_some o) v (saturate (v then line (GIVEN
 overhears_unknown : (v : RuleScript) (op : Op) (t : Term) → compose v t ≡ None → overhears v op t ≡ (v then line op (Some t))
 overhears_unknown v op t e = ap (λ o. cond (is_some o) v (v then line op (Some t))) e
 
+-- what can be composed writes nothing
+pub knows_composed : (v : RuleScript) (t : Term) (c : Composed) → compose v t ≡ Some c → v ≡ knows v t
+knows_composed v t c e = sym (ap (λ o. cond (is_some o) v (saturate (v then line (GIVEN t) (Some t)))) e)
+
+pub overhears_composed : (v : RuleScript) (op : Op) (t : Term) (c : Composed) → compose v t ≡ Some c → v ≡ overhears v op t
+overhears_composed v op t c e = sym (ap (λ o. cond (is_some o) v (v then line op (Some t))) e)
+
 -- initial knowledge
 module _ (ts : List TermNode) (s s1 : Script) (t : ℕ) (lt : t < length ts) (known : AllNamed (length ts) (written s)) (none : compose (view ts s) (tree ts t) ≡ None) where
   pub know_stop : (e : ScriptError) → Pushed s (record { op = Given t; holds = Some t }) (Err e) s1 → Effects ts (knows (view ts s) (tree ts t)) (Err e)

@@ -1,5 +1,5 @@
 -- The message composed after its fresh names, and sent.
-use Rattle.std.proofs.Common.{◌≡◌, ℕ, List, [], ◌∷◌, Some, None, Ok, Err, sym, ap, ◌∙◌, arith, length-append}
+use Rattle.std.proofs.Common.{◌≡◌, ℕ, List, [], ◌∷◌, length, Some, None, Ok, Err, sym, ap, ◌∙◌, arith, length-append}
 use Rattle.deduction.specs.Term.{Term}
 use Rattle.terms.specs.declared.node.TermNode.{TermNode}
 use Rattle.terms.specs.Tree.{tree}
@@ -11,8 +11,8 @@ use Rattle.scripts.specs.declared.instruction.Instruction.TheVariants.{Send}
 use Rattle.scripts.specs.declared.instruction.ScriptError.{ScriptError}
 use Rattle.scripts.specs.declared.instruction.ScriptError.TheVariants.{Full, Missing}
 use Rattle.scripts.specs.declared.script.Script.{Script}
-use Rattle.scripts.specs.Composing.{view, Composes}
-use Rattle.scripts.specs.View.{Pushed}
+use Rattle.scripts.specs.Composing.{view, AllNamed, Composes}
+use Rattle.scripts.specs.View.{written, Pushed}
 use Rattle.scripts.specs.Writing.{Writes}
 use Rattle.scripts.proofs.Writing.{pushed_writes}
 use Rattle.effects.specs.Sending.{Sends, LacksFresh}
@@ -38,17 +38,17 @@ module _ (ts : List TermNode) (v : RuleScript) (fresh : List Term) (t address : 
           (c.script then line (SEND c.slot address) None, ap (sends address) (here ∙ p.0.1), omega (arith, p.0.2, length-append c.script (line (SEND c.slot address) None ∷ [])))
       send_stop_message s2 (Missing m) p = let z : ◌≡◌ {A = ℕ} 0 1 = cc (here, can.1, p.0.2) in absurd (omega (arith, z))
 
-      module _ (n : ℕ) (s2 s3 : Script) (two : Composes ts s1 t (Ok n) s2) where
+      module _ (n : ℕ) (s2 s3 : Script) (two : Composes ts s1 t (Ok n) s2) (named : AllNamed (length ts) (written s2)) where
         all : sent v fresh (tree ts t) address ≡ Some (view ts s2 then line (SEND n address) None)
         all = ap (sends address) (here ∙ two.0)
 
         -- SEND finds no room
         pub send_stop_address : (e : ScriptError) → Pushed s2 (record { op = Send n address; holds = None }) (Err e) s3 → Sends ts v fresh (tree ts t) address (Err e)
         send_stop_address Full p =
-            (view ts s2 then line (SEND n address) None, all, pushed_writes ts s2 s3 (record { op = Send n address; holds = None }) (Err Full) p two.1 (tt, tt))
+            (view ts s2 then line (SEND n address) None, all, pushed_writes ts s2 s3 (record { op = Send n address; holds = None }) (Err Full) p named (tt, tt))
         send_stop_address (Missing m) p = absurd p
 
         pub send_all : (k : ℕ) → Pushed s2 (record { op = Send n address; holds = None }) (Ok k) s3 → Sends ts v fresh (tree ts t) address (Ok s3)
         send_all k p =
-            let w = pushed_writes ts s2 s3 (record { op = Send n address; holds = None }) (Ok k) p two.1 (tt, tt) in
+            let w = pushed_writes ts s2 s3 (record { op = Send n address; holds = None }) (Ok k) p named (tt, tt) in
             (all ∙ ap Some (sym w.0), w.1)

@@ -3,7 +3,7 @@ use Rattle.std.proofs.lemmas.Result.{err_from_is_err_and}
 use Rattle.terms.specs.Listed.{listed}
 use Rattle.effects.proofs.Freshening.{freshen_start, freshened, passed, freshened_stop, freshen_end}
 use Rattle.effects.proofs.fresh.freshen_all.Goals as goal
-use Rattle.effects.proofs.fresh.freshen_all.Goals.{then-fresh-name+in-ok-freshen, else-fresh-name}
+use Rattle.effects.proofs.fresh.freshen_all.Goals.{then-fresh-name+in_ok-freshen, else-fresh-name}
 
 pub loop-name-init : goal.loop-name-init
 loop-name-init c = λ k m. (k, freshen_start (listed c.args.terms.now) c.args.fresh.now c.args.script.now)
@@ -28,7 +28,7 @@ loop-name-preserved c =
     λ k m.
     let inv = c.loop-name.invariant k m in
     elim c.if-fresh-name.branch [
-      | then-fresh-name+in-ok-freshen w ↦
+      | then-fresh-name+in_ok-freshen w ↦
           let d = w.in_ok-freshen.ensures li (m i li w.if-fresh-name.true) inv.0 in
           rw w.script-is (d.1, freshened ts f i li _ c.loop-name.script inv.1 w.freshen.new.script w.if-fresh-name.true d.0)
       | else-fresh-name w ↦ rw w.script-is (inv.0, passed ts f i li _ c.loop-name.script inv.1 w.if-fresh-name.false)
