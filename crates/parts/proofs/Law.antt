@@ -11,7 +11,7 @@ use Rattle.valuation.proofs.Slots.{fits_before}
 use Rattle.valuation.proofs.Scripts.{Slot, HeldAt, AllHeld, all_held}
 use Rattle.valuation.proofs.States.{scripts_fit}
 use Rattle.valuation.proofs.Terms.{name_in}
-use Rattle.parts.specs.Parts.{script_of, SenderPart, ReceiverPart, StepWrote, PartyWrote}
+use Rattle.parts.specs.Parts.{script_of, sent_from, received_from, SenderPart, ReceiverPart, StepWrote, PartyWrote}
 use Rattle.parts.specs.Law.{StepsWrote}
 use Rattle.parts.proofs.Pieces.{Sending}
 use Rattle.parts.proofs.Played.{read_at, above, StepPlayed, Played, came_played}
@@ -73,14 +73,12 @@ steps_wrote past st came = record { steps = λ l x e. steps _ x (v.steps l x e);
           receiver_name = w.receiver_name;
           receiver_is = w.receiver_is;
           receiver_in = name_in st x.receiver w.receiver_name w.receiver_is;
-          sent_next = w.sent_next;
-          received_next = w.received_next;
           sends =
-              subst (λ s. SenderPart s x.message w.receiver_name x.sent-from x.sent) (sym (read_at st.scripts x.sender w.sender_script [] w.sender_has))
-              (sender_wrote st.terms w.sender_script x.message w.receiver_name x.sent-from x.sent
+              subst (λ s. SenderPart s x.message w.receiver_name (sent_from st earlier x) x.sent) (sym (read_at st.scripts x.sender w.sender_script [] w.sender_has))
+              (sender_wrote st.terms w.sender_script x.message w.receiver_name (sent_from st earlier x) x.sent
               (scripts_fit past st came x.sender w.sender_script w.sender_has) w.sends);
           receives =
-              subst (λ s. ReceiverPart s w.sender_name x.message x.received-from x.received) (sym (read_at st.scripts x.receiver w.receiver_script [] w.receiver_has))
+              subst (λ s. ReceiverPart s w.sender_name x.message (received_from st earlier x) x.received) (sym (read_at st.scripts x.receiver w.receiver_script [] w.receiver_has))
               w.receives;
         }
 

@@ -1,4 +1,5 @@
 pub mod Writing
+pub mod Opening
 pub mod Outcomes
 pub mod Limits
 pub mod Granted

@@ -59,9 +59,7 @@ step_of {st} {a} {b} g =
       sender = a;
       receiver = b;
       message = g.message;
-      sent-from = length (get_or st.scripts a []);
       sent = length (sender_after g);
-      received-from = length (get_or st.scripts b []);
       received = length (receiver_after g);
       heard = length (listener_after g);
     }
@@ -113,16 +111,7 @@ module _ (st : State) where
       (record {
         terms = st.terms;
         scripts = set (set (set st.scripts a sa) b sb) 0 sl;
-        steps = st.steps ++ (record {
-          sender = a;
-          receiver = b;
-          message = m;
-          sent-from = length (get_or st.scripts a []);
-          sent = length sa;
-          received-from = length (get_or st.scripts b []);
-          received = length sb;
-          heard = length sl;
-        } ∷ []);
+        steps = st.steps ++ (record { sender = a; receiver = b; message = m; sent = length sa; received = length sb; heard = length sl } ∷ []);
       })) → D (stepped_to st a b n m sa sb sl)
   stepped_does a b n m sa sb sl does =
       cond_does st (too_long sa) _ _ (λ la. alters_nothing tt)

@@ -1,9 +1,9 @@
 -- What holds of steps and parties in every state that came about: every call keeps it.
-use Rattle.std.proofs.Common.{◌≡◌, ℕ, zero, suc, ◌+◌, ◌<◌, ◌≤◌, ◌⊎◌, List, [], ◌∷◌, ◌++◌, length, get_or, take, set, Some, None, sym, refl, ap, ◌∙◌, subst, inl, inr, arith}
-use Rattle.std.proofs.lemmas.Bool.{cases_lt}
+use Rattle.std.proofs.Common.{◌≡◌, ℕ, zero, suc, ◌+◌, ◌≤◌, ◌⊎◌, List, [], ◌∷◌, ◌++◌, length, get_or, take, set, Some, None, sym, refl, ap, ◌∙◌, subst, inl, inr, arith}
+use Rattle.std.proofs.lemmas.Bool.{cases_eq}
 use Rattle.std.proofs.lemmas.List.{append-nil, get_or_append_left, get_or-set_other, take_all, take-append-le}
-use Rattle.deduction.specs.Term.{Kind, party, number, shared, public, table, function, Term, In}
-use Rattle.rules.specs.Script.{Line, Script}
+use Rattle.deduction.specs.Term.{Kind, party, number, shared, public, table, function, Term, name, In}
+use Rattle.rules.specs.Script.{Script}
 use Rattle.rules.specs.Effects.{knows}
 use Rattle.rules.specs.State.{Step, State, blank, Told, nth, name_of, new_terms, new_scripts, fresh_names, perform}
 use Rattle.rules.specs.History.{History, Came}
@@ -12,16 +12,17 @@ use Rattle.rules.specs.Theorems.{Keeps}
 use Rattle.rules.specs.Invariant.{Stable}
 use Rattle.rules.proofs.Find.{some_none}
 use Rattle.rules.proofs.Nth.{some_is, nth_in, in_nth, nth_below, nth_at, nth_either, nth_set, nth_set_other, nth_set_same}
-use Rattle.rules.proofs.Begins.{begins_length, knows_begins, received_begins}
+use Rattle.rules.proofs.Begins.{begins_length, received_begins}
 use Rattle.rules.proofs.Keeps.{calls_only_add_lem}
 use Rattle.rules.proofs.Law.{came_stable}
 use Rattle.parts.specs.Kinds.{Starts}
-use Rattle.parts.specs.Parts.{script_of, first_from, initial, reached, Each, ReceiverPart}
+use Rattle.parts.specs.Opening.{opening}
+use Rattle.parts.specs.Parts.{initial, reached, sent_from, received_from, Each, ReceiverPart}
 use Rattle.parts.proofs.Outcomes.{Grants, sender_after, receiver_after, listener_after, step_of, state_after}
 use Rattle.parts.proofs.Outcomes.{Does, alters_nothing, adds_term, adds_name, gives_knowledge, grants_step, call_does}
-use Rattle.parts.proofs.Writing.{wrote_each, knows_starts}
-use Rattle.parts.proofs.Reached.{part_end, first_push, reached_push, by_cases, AllApart, first_apart, reached_apart}
-use Rattle.parts.proofs.Pieces.{nth_back, each_on, Sending, sending_on, receiving_on, sender_begins, sender_part, receiver_part}
+use Rattle.parts.proofs.Opening.{Open, sender_opening, receiver_opening, knows_open, name_open}
+use Rattle.parts.proofs.Reached.{part_end, reached_push, by_cases, AllApart, reached_apart}
+use Rattle.parts.proofs.Pieces.{each_on, Sending, sending_on, receiving_on, sender_begins, sender_part, receiver_part}
 
 -- what a list has at a place, it reads there
 pub read_at : {A : Type 0} (xs : List A) (n : ℕ) (x d : A) → nth xs n ≡ Some x → get_or xs n d ≡ x
@@ -39,10 +40,8 @@ pub record StepPlayed (st : State) (earlier : List Step) (x : Step) : Type 0 whe
   pub sender_is : name_of st x.sender ≡ Some sender_name
   pub receiver_name : Term
   pub receiver_is : name_of st x.receiver ≡ Some receiver_name
-  pub sent_next : x.sent-from ≡ reached earlier (initial st x.sender) x.sender
-  pub received_next : x.received-from ≡ reached earlier (initial st x.receiver) x.receiver
-  pub sends : Sending sender_script x.message receiver_name x.sent-from x.sent
-  pub receives : ReceiverPart receiver_script sender_name x.message x.received-from x.received
+  pub sends : Sending sender_script x.message receiver_name (sent_from st earlier x) x.sent
+  pub receives : ReceiverPart receiver_script sender_name x.message (received_from st earlier x) x.received
 
 -- a party's initial part, and that all is done when all steps are played
 pub record PartyPlayed (st : State) (p : ℕ) (s : Script) : Type 0 where
@@ -80,10 +79,12 @@ module _ (st st' : State) (keeps : Keeps st st') (names : (p : ℕ) (t : Term) �
         sender_is = names x.sender w.sender_name w.sender_is;
         receiver_name = w.receiver_name;
         receiver_is = names x.receiver w.receiver_name w.receiver_is;
-        sent_next = w.sent_next ∙ ap (λ n. reached earlier n x.sender) (sym ia);
-        received_next = w.received_next ∙ ap (λ n. reached earlier n x.receiver) (sym ib);
-        sends = sending_on w.sender_script a.0 x.message w.receiver_name x.sent-from x.sent a.2 w.sends;
-        receives = receiving_on w.receiver_script b.0 w.sender_name x.message x.received-from x.received b.2 w.receives;
+        sends =
+            subst (λ n. Sending a.0 x.message w.receiver_name (reached earlier n x.sender) x.sent) (sym ia)
+            (sending_on w.sender_script a.0 x.message w.receiver_name (sent_from st earlier x) x.sent a.2 w.sends);
+        receives =
+            subst (λ n. ReceiverPart b.0 w.sender_name x.message (reached earlier n x.receiver) x.received) (sym ib)
+            (receiving_on w.receiver_script b.0 w.sender_name x.message (received_from st earlier x) x.received b.2 w.receives);
       }
 
 -- the same of a party
@@ -98,25 +99,28 @@ party_on st st' p s s' b e r w =
     }
 
 -- a party that takes no part in a step has its initial part only
-initial_alone : (st : State) (p : ℕ) (s : Script) → nth st.scripts p ≡ Some s → AllApart st.steps p → initial st p ≡ length s
-initial_alone st p s e h = first_apart st.steps (length (script_of st p)) p h ∙ ap length (read_at st.scripts p s [] e)
+opening_alone : (st : State) (p : ℕ) (s : Script) → nth st.scripts p ≡ Some s → AllApart st.steps p → PartyPlayed st p s → Open s
+opening_alone st p s e h w =
+    let i : initial st p ≡ length s = sym (reached_apart st.steps (initial st p) p h) ∙ w.all in
+    record {
+      each = λ k l f. let b = nth_below s k l f in w.starts k l (omega arith) (omega arith) f;
+      whole = ap opening (sym (read_at st.scripts p s [] e)) ∙ i;
+    }
 
-party_alone : (st : State) (p : ℕ) (s : Script) → nth st.scripts p ≡ Some s → AllApart st.steps p
-    → ((k : ℕ) (l : Line) → nth s k ≡ Some l → Starts l.op) → PartyPlayed st p s
-party_alone st p s e h each =
-    let i = initial_alone st p s e h in
-    record { within = omega arith; starts = λ k l f q x. each k l x; all = reached_apart st.steps (initial st p) p h ∙ i }
+party_alone : (st : State) (p : ℕ) (s : Script) → nth st.scripts p ≡ Some s → AllApart st.steps p → Open s → PartyPlayed st p s
+party_alone st p s e h v =
+    let i : initial st p ≡ length s = ap opening (read_at st.scripts p s [] e) ∙ v.whole in
+    record { within = omega arith; starts = λ k l f q x. v.each k l x; all = reached_apart st.steps (initial st p) p h ∙ i }
 
 -- a new party starts with its name
-new_starts : (k : Kind) (n p : ℕ) (s : Script) → nth (new_scripts k n) p ≡ Some s → (j : ℕ) (l : Line) → nth s j ≡ Some l → Starts l.op
-new_starts party n zero s e zero l f = let q = some_is e in subst (λ z. Starts z.op) (some_is (ap (λ z. nth z 0) q ∙ f)) tt
-new_starts party n zero s e (suc j) l f = let q = some_is e in absurd (some_none None (ap (λ z. nth z (suc j)) q ∙ f) refl)
-new_starts party n (suc p) s e j l f = absurd (some_none None e refl)
-new_starts number n p s e j l f = absurd (some_none None e refl)
-new_starts shared n p s e j l f = absurd (some_none None e refl)
-new_starts public n p s e j l f = absurd (some_none None e refl)
-new_starts table n p s e j l f = absurd (some_none None e refl)
-new_starts function n p s e j l f = absurd (some_none None e refl)
+new_open : (k : Kind) (n p : ℕ) (s : Script) → nth (new_scripts k n) p ≡ Some s → Open s
+new_open party n zero s e = subst Open (some_is e) (name_open (name party n))
+new_open party n (suc p) s e = absurd (some_none None e refl)
+new_open number n p s e = absurd (some_none None e refl)
+new_open shared n p s e = absurd (some_none None e refl)
+new_open public n p s e = absurd (some_none None e refl)
+new_open table n p s e = absurd (some_none None e refl)
+new_open function n p s e = absurd (some_none None e refl)
 
 module _ (st : State) (v : Played st) where
   -- NAME
@@ -130,7 +134,7 @@ module _ (st : State) (v : Played st) where
     -- the parties that were there
     name_initial : (p : ℕ) (s : Script) → 1 ≤ p → nth st.scripts p ≡ Some s → initial after_name p ≡ initial st p
     name_initial p s h e =
-        ap (λ x. first_from st.steps (length x) p) (get_or_append_left st.scripts named_scripts [] p (nth_below st.scripts p s e))
+        ap opening (get_or_append_left st.scripts named_scripts [] p (nth_below st.scripts p s e))
 
     -- no step is by a new one
     name_apart : (p : ℕ) → length st.scripts ≤ p → AllApart st.steps p
@@ -148,7 +152,7 @@ module _ (st : State) (v : Played st) where
             let w = v.parties p s h f in party_on st after_name p s s ([], sym (append-nil s)) (name_initial p s h f) w.all w
         go (inr w) =
             let q = w.1 in
-            party_alone after_name p s e (name_apart p (omega arith)) (new_starts k (length st.terms) w.0 s w.2)
+            party_alone after_name p s e (name_apart p (omega arith)) (new_open k (length st.terms) w.0 s w.2)
 
     pub name_played : Keeps st after_name → ((p : ℕ) (t : Term) → name_of st p ≡ Some t → name_of after_name p ≡ Some t) → Played after_name
     name_played keeps names =
@@ -165,25 +169,15 @@ module _ (st : State) (v : Played st) where
       apart : (q : ℕ) → AllApart st.steps q
       apart q l x e = absurd (some_none None (ap (λ us. nth us l) (sym none) ∙ e) refl)
 
-      old : (q : ℕ) (x : Script) → 1 ≤ q → nth st.scripts q ≡ Some x → (k : ℕ) (l : Line) → nth x k ≡ Some l → Starts l.op
-      old q x h e k l f =
-          let i = initial_alone st q x e (apart q) in
-          let b = nth_below x k l f in
-          (v.parties q x h e).starts k l (omega arith) (omega arith) f
-
-      new : 1 ≤ p → (k : ℕ) (l : Line) → nth (knows s t) k ≡ Some l → Starts l.op
-      new h k l f = go (cases_lt k (length s))
-        where
-          go : (k < length s) ⊎ (length s ≤ k) → Starts l.op
-          go (inl q) = old p s h es k l (nth_back s (knows s t) (knows_begins s t) k l q f)
-          go (inr q) = wrote_each Starts (knows_starts s t) k l q f
+      old : (q : ℕ) (x : Script) → 1 ≤ q → nth st.scripts q ≡ Some x → Open x
+      old q x h e = opening_alone st q x e (apart q) (v.parties q x h e)
 
       parties : (q : ℕ) (x : Script) → 1 ≤ q → nth (set st.scripts p (knows s t)) q ≡ Some x → PartyPlayed after q x
       parties q x h e = party_alone after q x e (apart q) (go (nth_set st.scripts p (knows s t) q x e))
         where
-          go : ((q ≡ p) × (x ≡ knows s t)) ⊎ ((q ≡ p → ⊥) × (nth st.scripts q ≡ Some x)) → (k : ℕ) (l : Line) → nth x k ≡ Some l → Starts l.op
-          go (inl w) k l f = let a = w.0 in new (omega arith) k l (ap (λ z. nth z k) (sym w.1) ∙ f)
-          go (inr w) k l f = old q x h w.1 k l f
+          go : ((q ≡ p) × (x ≡ knows s t)) ⊎ ((q ≡ p → ⊥) × (nth st.scripts q ≡ Some x)) → Open x
+          go (inl w) = let a = w.0 in subst Open (sym w.1) (knows_open s t (old p s (omega arith) es))
+          go (inr w) = old q x h w.1
 
   -- STEP
   module _ (a b n : ℕ) (g : Grants st a b n) where
@@ -202,17 +196,6 @@ module _ (st : State) (v : Played st) where
     b1 : 1 ≤ b
     b1 = above st b g.receiver_name g.receiver_named
 
-    -- the initial parts stay
-    step_initial : (p : ℕ) → 1 ≤ p → initial (state_after g) p ≡ initial st p
-    step_initial p h =
-        first_push st.steps (step_of g) (length (script_of after p)) p
-        ∙ ap (λ m. first_from st.steps m p)
-        (by_cases a b (length (get_or st.scripts a [])) (length (get_or st.scripts b [])) (length (script_of after p)) (λ m. m ≡ length (get_or st.scripts p [])) p
-        (λ e. ap (λ q. length (get_or st.scripts q [])) e)
-        (λ d e. ap (λ q. length (get_or st.scripts q [])) e)
-        (λ d e. ap length (get_or-set_other x2 0 p (listener_after g) [] (λ q. omega arith)
-        ∙ (get_or-set_other x1 b p (receiver_after g) [] (λ q. e (sym q)) ∙ get_or-set_other st.scripts a p (sender_after g) [] (λ q. d (sym q))))))
-
     -- the scripts of sender and receiver
     sender_now : nth (set (set (set st.scripts a (sender_after g)) b (receiver_after g)) 0 (listener_after g)) a ≡ Some (sender_after g)
     sender_now =
@@ -227,6 +210,26 @@ module _ (st : State) (v : Played st) where
 
     sender_goes_on : Begins g.sender_script (sender_after g)
     sender_goes_on = sender_begins g.sender_script (fresh_names st g.message) g.message g.receiver_name g.address g.address_found g.composed g.composes
+
+    -- the initial parts stay
+    step_opening : (p : ℕ) (s s' : Script) → nth st.scripts p ≡ Some s → nth (set (set (set st.scripts a (sender_after g)) b (receiver_after g)) 0 (listener_after g)) p ≡ Some s'
+        → opening s' ≡ opening s → initial (state_after g) p ≡ initial st p
+    step_opening p s s' e f o = ap opening (read_at after.scripts p s' [] f) ∙ (o ∙ ap opening (sym (read_at st.scripts p s [] e)))
+
+    step_initial : (p : ℕ) → 1 ≤ p → initial (state_after g) p ≡ initial st p
+    step_initial p h = go (cases_eq a p) (cases_eq b p)
+      where
+        go : (a ≡ p) ⊎ (a ≡ p → ⊥) → (b ≡ p) ⊎ (b ≡ p → ⊥) → initial (state_after g) p ≡ initial st p
+        go (inl d) q =
+            subst (λ n. initial (state_after g) n ≡ initial st n) d
+            (step_opening a g.sender_script (sender_after g) g.sender_is sender_now
+            (sender_opening g.sender_script (fresh_names st g.message) g.message g.address g.composed g.composes))
+        go (inr d) (inl e) =
+            subst (λ n. initial (state_after g) n ≡ initial st n) e
+            (step_opening b g.receiver_script (receiver_after g) g.receiver_is receiver_now (receiver_opening g.receiver_script g.sender_name g.message))
+        go (inr d) (inr e) =
+            ap opening (get_or-set_other x2 0 p (listener_after g) [] (λ q. omega arith)
+            ∙ (get_or-set_other x1 b p (receiver_after g) [] (λ q. e (sym q)) ∙ get_or-set_other st.scripts a p (sender_after g) [] (λ q. d (sym q))))
 
     -- how far each party is done
     step_party : (p : ℕ) (s s' : Script) → 1 ≤ p → nth st.scripts p ≡ Some s → Begins s s' → part_end (step_of g) (reached st.steps (initial st p) p) p ≡ length s' → PartyPlayed after p s'
@@ -269,9 +272,8 @@ module _ (st : State) (v : Played st) where
         last (inr w) = middle (nth_set x1 b (receiver_after g) p s w.1)
 
     -- a part of the step follows what its party had done
-    next : (p : ℕ) (s : Script) → 1 ≤ p → nth st.scripts p ≡ Some s → length (get_or st.scripts p []) ≡ reached st.steps (initial after p) p
-    next p s h e =
-        ap length (read_at st.scripts p s [] e) ∙ (sym (v.parties p s h e).all ∙ ap (λ m. reached st.steps m p) (sym (step_initial p h)))
+    next : (p : ℕ) (s : Script) → 1 ≤ p → nth st.scripts p ≡ Some s → length s ≡ reached st.steps (initial after p) p
+    next p s h e = sym (v.parties p s h e).all ∙ ap (λ m. reached st.steps m p) (sym (step_initial p h))
 
     new_step : StepPlayed after st.steps (step_of g)
     new_step =
@@ -286,13 +288,11 @@ module _ (st : State) (v : Played st) where
           sender_is = g.sender_named;
           receiver_name = g.receiver_name;
           receiver_is = g.receiver_named;
-          sent_next = next a g.sender_script a1 g.sender_is;
-          received_next = next b g.receiver_script b1 g.receiver_is;
           sends =
-              subst (λ s. Sending (sender_after g) g.message g.receiver_name (length s) (length (sender_after g))) (sym (read_at st.scripts a g.sender_script [] g.sender_is))
+              subst (λ n. Sending (sender_after g) g.message g.receiver_name n (length (sender_after g))) (next a g.sender_script a1 g.sender_is)
               (sender_part g.sender_script (fresh_names st g.message) g.message g.receiver_name g.address g.address_found g.composed g.composes);
           receives =
-              subst (λ s. ReceiverPart (receiver_after g) g.sender_name g.message (length s) (length (receiver_after g))) (sym (read_at st.scripts b g.receiver_script [] g.receiver_is))
+              subst (λ n. ReceiverPart (receiver_after g) g.sender_name g.message n (length (receiver_after g))) (next b g.receiver_script b1 g.receiver_is)
               (receiver_part g.receiver_script g.sender_name g.message);
         }
 

@@ -1,21 +1,14 @@
 -- How far scripts are done after one more step, and by steps of other parties.
-use Rattle.std.proofs.Common.{◌≡◌, ℕ, suc, Bool, true, false, cond, eqb, List, [], ◌∷◌, ◌++◌, Some, refl, ap, ◌∙◌}
+use Rattle.std.proofs.Common.{◌≡◌, ℕ, suc, Bool, true, false, cond, eqb, List, [], ◌∷◌, ◌++◌, Some, refl, ◌∙◌}
 use Rattle.std.proofs.lemmas.Bool.{eqb-true, eqb-false}
 use Rattle.rules.specs.State.{Step, nth}
-use Rattle.parts.specs.Parts.{first_from, reached}
+use Rattle.parts.specs.Parts.{reached}
 
--- where the party's part of a step begins, and how far it is done after it; n if it takes no part
-abbrev pub part_from : Step → ℕ → ℕ → ℕ
-part_from x n p = cond (eqb x.sender p) x.sent-from (cond (eqb x.receiver p) x.received-from n)
-
+-- how far a party is done after a step; n if it takes no part
 abbrev pub part_end : Step → ℕ → ℕ → ℕ
 part_end x n p = cond (eqb x.sender p) x.sent (cond (eqb x.receiver p) x.received n)
 
 -- one more step
-pub first_push : (xs : List Step) (y : Step) (n p : ℕ) → first_from (xs ++ (y ∷ [])) n p ≡ first_from xs (part_from y n p) p
-first_push [] y n p = refl
-first_push (x ∷ xs) y n p = ap (λ m. part_from x m p) (first_push xs y n p)
-
 pub reached_push : (xs : List Step) (y : Step) (n p : ℕ) → reached (xs ++ (y ∷ [])) n p ≡ part_end y (reached xs n p) p
 reached_push [] y n p = refl
 reached_push (x ∷ xs) y n p = reached_push xs y (part_end x n p) p
@@ -38,13 +31,6 @@ Apart p x = (x.sender ≡ p → ⊥) × (x.receiver ≡ p → ⊥)
 
 abbrev pub AllApart : List Step → ℕ → Type 0
 AllApart xs p = (l : ℕ) (x : Step) → nth xs l ≡ Some x → Apart p x
-
-pub first_apart : (xs : List Step) (n p : ℕ) → AllApart xs p → first_from xs n p ≡ n
-first_apart [] n p h = refl
-first_apart (x ∷ xs) n p h =
-    let w = h 0 x refl in
-    by_cases x.sender x.receiver x.sent-from x.received-from (first_from xs n p) (λ m. m ≡ n) p
-    (λ e. absurd (w.0 e)) (λ q e. absurd (w.1 e)) (λ q r. first_apart xs n p (λ l y e. h (suc l) y e))
 
 pub reached_apart : (xs : List Step) (n p : ℕ) → AllApart xs p → reached xs n p ≡ n
 reached_apart [] n p h = refl

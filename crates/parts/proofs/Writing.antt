@@ -43,7 +43,7 @@ module _ (O : Op → Type 0) (builds : (f : Form) (i j : ℕ) → O (builder f i
   -- taking apart
   module _ (lefts : (i : ℕ) → O (LEFT i)) (rights : (i : ℕ) → O (RIGHT i)) (opens : (i j : ℕ) → O (OPEN i j)) where
     -- the same of a script that may not be there
-    abbrev WritesIn : Script → Option Script → Type 0
+    abbrev pub WritesIn : Script → Option Script → Type 0
     WritesIn s None = Unit {0}
     WritesIn s (Some s1) = Grows (Writes O) s s1
 
@@ -76,7 +76,7 @@ module _ (O : Op → Type 0) (builds : (f : Form) (i j : ℕ) → O (builder f i
     first_writes s None p h k = k
     first_writes s (Some s1) p h k = h
 
-    from_writes : (s : Script) (n : ℕ) (rest : Script) → WritesIn s (take_from s n rest)
+    pub from_writes : (s : Script) (n : ℕ) (rest : Script) → WritesIn s (take_from s n rest)
     from_writes s n [] = tt
     from_writes s n (l ∷ rest) = first_writes s (take_held s n l.holds) (take_from s (n + 1) rest) (held_writes s n l.holds) (from_writes s (n + 1) rest)
 
@@ -119,7 +119,7 @@ module _ (O : Op → Type 0) (builds : (f : Form) (i j : ℕ) → O (builder f i
 
 -- initial knowledge
 
-starts_built : (f : Form) (i j : ℕ) → Starts (builder f i j)
+pub starts_built : (f : Form) (i j : ℕ) → Starts (builder f i j)
 starts_built pair i j = tt
 starts_built sealed i j = tt
 starts_built digest i j = tt

@@ -1,5 +1,6 @@
 pub mod Limits
 pub mod Kinds
+pub mod Opening
 pub mod Parts
 pub mod Granted
 pub mod Sames

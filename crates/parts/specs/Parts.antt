@@ -5,24 +5,27 @@ use Rattle.rules.specs.Script.{Op, FROM, SEND, Line, Script, line}
 use Rattle.rules.specs.State.{Step, State, nth, name_of}
 use Rattle.valuation.specs.Fit.{at, terms_of}
 use Rattle.parts.specs.Kinds.{Starts, Prepares, Takes}
+use Rattle.parts.specs.Opening.{opening}
 
 -- the script of an agent; of one that is not there, none
 abbrev pub script_of : State → ℕ → Script
 script_of st p = slice_index_or st.scripts p []
 
--- where the party's part of the first step in which it sends or receives begins; n if there is none
-abbrev pub first_from : List Step → ℕ → ℕ → ℕ
-first_from [] n p = n
-first_from (x ∷ xs) n p = cond (x.sender == p) x.sent-from (cond (x.receiver == p) x.received-from (first_from xs n p))
-
 -- how many instructions of the party's script precede its first step
 abbrev pub initial : State → ℕ → ℕ
-initial st p = first_from st.steps (length (script_of st p)) p
+initial st p = opening (script_of st p)
 
 -- how far the party's script is done when these steps are played, from n on
 abbrev pub reached : List Step → ℕ → ℕ → ℕ
 reached [] n p = n
 reached (x ∷ xs) n p = reached xs (cond (x.sender == p) x.sent (cond (x.receiver == p) x.received n)) p
+
+-- where the parts begin that a step wrote into its sender's and its receiver's script, given the steps before it
+abbrev pub sent_from : State → List Step → Step → ℕ
+sent_from st earlier x = reached earlier (initial st x.sender) x.sender
+
+abbrev pub received_from : State → List Step → Step → ℕ
+received_from st earlier x = reached earlier (initial st x.receiver) x.receiver
 
 -- every instruction from one place up to another is of such a kind
 abbrev pub Each : (Op → Type 0) → Script → ℕ → ℕ → Type 0
@@ -64,10 +67,8 @@ pub record StepWrote (st : State) (earlier : List Step) (x : Step) : Type 0 wher
   pub receiver_name : Term
   pub receiver_is : name_of st x.receiver ≡ Some receiver_name
   pub receiver_in : In receiver_name st.terms
-  pub sent_next : x.sent-from ≡ reached earlier (initial st x.sender) x.sender
-  pub received_next : x.received-from ≡ reached earlier (initial st x.receiver) x.receiver
-  pub sends : SenderPart (script_of st x.sender) x.message receiver_name x.sent-from x.sent
-  pub receives : ReceiverPart (script_of st x.receiver) sender_name x.message x.received-from x.received
+  pub sends : SenderPart (script_of st x.sender) x.message receiver_name (sent_from st earlier x) x.sent
+  pub receives : ReceiverPart (script_of st x.receiver) sender_name x.message (received_from st earlier x) x.received
 
 -- a party's script: what precedes its first step, and that all is done when all steps are played
 pub record PartyWrote (st : State) (p : ℕ) : Type 0 where

@@ -96,8 +96,8 @@ module _ (c : Content) (s : Sound c) (a b n : ℕ) (w : Delivery) (ad : Addresse
       sym (ap length (get_or-map (script_of (tree (listed c.terms))) (lines_of c) p [] [] (omega (arith, l, agents_length c s))) ∙ length_view (tree (listed c.terms)) (get_or (lines_of c) p []))
 
   same_rule : (m : _) (f f' x x' h h' y y' z z' : ℕ) → f ≡ f' → x ≡ x' → h ≡ h' → y ≡ y' → z ≡ z'
-      → ◌≡◌ {A = RuleStep} (record { sender = a; receiver = b; message = m; sent-from = f; sent = x; received-from = h; received = y; heard = z })
-      (record { sender = a; receiver = b; message = m; sent-from = f'; sent = x'; received-from = h'; received = y'; heard = z' })
+      → ◌≡◌ {A = RuleStep} (record { sender = a; receiver = b; message = m; sent_from = f; sent = x; received_from = h; received = y; heard = z })
+      (record { sender = a; receiver = b; message = m; sent_from = f'; sent = x'; received_from = h'; received = y'; heard = z' })
   same_rule m f f' x x' h h' y y' z z' e1 e2 e3 e4 e5 = rw (e1, e2, e3, e4, e5) refl
 
   after_is : state_of c' ≡ after_step c a b n (view (listed c.terms) d.sent) (view (listed c.terms) d.received) (view (listed c.terms) d.heard)

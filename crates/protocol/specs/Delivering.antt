@@ -31,9 +31,9 @@ after_step c a b n sa sb sl = record {
     sender = a;
     receiver = b;
     message = tree (listed c.terms) n;
-    sent-from = length (slice_index_or (state_of c).scripts a []);
+    sent_from = length (slice_index_or (state_of c).scripts a []);
     sent = length sa;
-    received-from = length (slice_index_or (state_of c).scripts b []);
+    received_from = length (slice_index_or (state_of c).scripts b []);
     received = length sb;
     heard = length sl;
   } ∷ []);

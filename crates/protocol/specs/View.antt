@@ -36,9 +36,9 @@ step_of T s = record {
   sender = s.sender;
   receiver = s.receiver;
   message = T s.message;
-  sent-from = s.sent_from;
+  sent_from = s.sent_from;
   sent = s.sent;
-  received-from = s.received_from;
+  received_from = s.received_from;
   received = s.received;
   heard = s.heard;
 }
