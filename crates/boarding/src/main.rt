@@ -64,7 +64,7 @@ fn print_steps(
             provider,
             slots,
             step.sender,
-            step.sent_from,
+            protocol.begin(number, step.sender),
             step.sent,
         )?;
         print_part(
@@ -73,7 +73,7 @@ fn print_steps(
             provider,
             slots,
             step.receiver,
-            step.received_from,
+            protocol.begin(number, step.receiver),
             step.received,
         )?;
     }

@@ -1,7 +1,7 @@
 -- Making calls one after the other.
-use Rattle.std.proofs.Common.{◌≡◌, ℕ, zero, suc, ◌+◌, ◌<◌, ◌≤◌, List, [], ◌∷◌, ◌++◌, length, get_or, take, drop, set, sym, refl, ap, ◌∙◌, subst, ap₂, add-one, arith, length-set, length-take, length-take-le, take_all, drop-drop}
+use Rattle.std.proofs.Common.{◌≡◌, ℕ, zero, suc, ◌+◌, ◌<◌, ◌≤◌, List, [], ◌∷◌, ◌++◌, length, get_or, take, drop, set, sym, refl, ap, ◌∙◌, subst, ap₂, add-one, arith, length-set, length-take-le, take_all, drop-drop}
 use Rattle.std.proofs.lemmas.List.{take_more, take_more_set}
-use Rattle.rules.specs.State.{State, blank, perform}
+use Rattle.rules.specs.State.{blank, perform}
 use Rattle.rules.specs.History.{History, Came, AnsweredRight}
 use Rattle.rules.specs.Theorems.{MissingTold}
 use Rattle.rules.proofs.Law.{answers_are_right_lem, missing_is_named}

@@ -1,6 +1,6 @@
 -- What a call is told as follows from its answer.
-use Rattle.std.proofs.Common.{◌≡◌, ℕ, ◌+◌, Bool, true, false, cond, eqb, ltb, ◌⊎◌, List, [], ◌∷◌, length, Some, None, Option, sym, refl, ap, ◌∙◌, subst, inl, inr}
-use Rattle.deduction.specs.Term.{Kind, party, Form, pair, Term, mate_of, built}
+use Rattle.std.proofs.Common.{◌≡◌, ℕ, ◌+◌, Bool, true, false, cond, eqb, ltb, length, Some, None, Option, sym, refl, ap, ◌∙◌, subst, inl, inr}
+use Rattle.deduction.specs.Term.{party, Form, pair, Term, mate_of, built}
 use Rattle.deduction.specs.Decide.{is_key, parts_fit}
 use Rattle.rules.specs.State.{State, Outcome, Told, named, formed, mated, known, stepped, asked, refused, Refusal as RuleRefusal, NAME, BUILD, KNOW, STEP, CAN, nth, with, kind_of, form_of, new_terms, new_scripts, place_of, has_no_steps, too_long, perform}
 use Rattle.rules.specs.State as rules
@@ -9,11 +9,10 @@ use Rattle.rules.proofs.Nth.{with_both}
 use Rattle.protocol.specs.declared.call.Call.{Call}
 use Rattle.protocol.specs.declared.call.Call.TheVariants.{Name, Build, Know, Step, CanBuild}
 use Rattle.protocol.specs.declared.call.Answer.{Answer}
-use Rattle.protocol.specs.declared.refusal.Refusal.{Refusal}
 use Rattle.protocol.specs.Outcome.{call_of, answer_of, Performed}
 use Rattle.protocol.specs.Refusals.{refusal_of}
 use Rattle.protocol.proofs.Laws.{cond_both, StepTold, step_told, CanTold, can_told}
-use Rattle.compiled.specs.Histories.{rule_refusal, kind_at, form_at, built_by, told_by}
+use Rattle.compiled.specs.Histories.{rule_refusal, form_at, told_by}
 
 -- there and back
 back : (r : RuleRefusal) → rule_refusal (refusal_of r) ≡ r

@@ -1,5 +1,5 @@
 -- Both laws of one call: of the calls that were made and of the run of what came of them.
-use Rattle.std.specs.Prelude.{◌≡◌, ℕ, ◌<◌, ◌≤◌, ◌⊎◌, List, length, take, Ok, Err, Result}
+use Rattle.std.specs.Prelude.{◌≡◌, ℕ, ◌<◌, ◌≤◌, ◌⊎◌, List, length, take, Err, Result}
 use Rattle.acting.specs.declared.refusal.SessionRefusal.TheVariants.{NoMemory}
 use Rattle.provider.specs.Algebra.{Algebra}
 use Rattle.provider.specs.Meaning.{Meaning}

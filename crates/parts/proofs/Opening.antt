@@ -22,7 +22,7 @@ built_within : (b : Bool) (n m : ℕ) → n ≤ m → cond b 0 (n + 1) ≤ suc m
 built_within true n m h = omega arith
 built_within false n m h = omega arith
 
-opens_within : (o : Op) (n m : ℕ) → n ≤ m → opens o n ≤ suc m
+pub opens_within : (o : Op) (n m : ℕ) → n ≤ m → opens o n ≤ suc m
 opens_within (GIVEN t) n m h = omega arith
 opens_within (FRESH t) n m h = omega arith
 opens_within (FROM t) n m h = omega arith

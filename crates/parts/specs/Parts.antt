@@ -1,5 +1,5 @@
 -- The parts of a party's script: the initial one, and one for each step in which the party sends or receives.
-use Rattle.std.specs.Prelude.{◌≡◌, ℕ, ◌-◌, ◌<◌, ◌≤◌, cond, List, [], ◌∷◌, length, Some, None, Option, ◌==◌, slice_index_or}
+use Rattle.std.specs.Prelude.{◌≡◌, ℕ, ◌-◌, ◌<◌, ◌≤◌, cond, List, [], ◌∷◌, length, take, Some, None, Option, ◌==◌, slice_index_or}
 use Rattle.deduction.specs.Term.{Term, In}
 use Rattle.rules.specs.Script.{Op, FROM, SEND, Line, Script, line}
 use Rattle.rules.specs.State.{Step, State, nth, name_of}
@@ -19,6 +19,10 @@ initial st p = opening (script_of st p)
 abbrev pub reached : List Step → ℕ → ℕ → ℕ
 reached [] n p = n
 reached (x ∷ xs) n p = reached xs (cond (x.sender == p) x.sent (cond (x.receiver == p) x.received n)) p
+
+-- where the party's part of the l-th step begins: how far its script is done by the steps before it
+abbrev pub begin : State → ℕ → ℕ → ℕ
+begin st l p = reached (take l st.steps) (initial st p) p
 
 -- where the parts begin that a step wrote into its sender's and its receiver's script, given the steps before it
 abbrev pub sent_from : State → List Step → Step → ℕ

@@ -1,5 +1,5 @@
 -- The tests of a step before its message is looked at.
-use Rattle.std.proofs.Common.{◌≡◌, ℕ, zero, suc, ◌<◌, ◌≤◌, Bool, true, false, cond, eqb, ltb, List, [], ◌∷◌, map, length, get_or, Some, None, Option, sym, refl, ap, ◌∙◌, arith, le-ltb, lt-ltb, eq-eqb, ne_eqb}
+use Rattle.std.proofs.Common.{◌≡◌, ℕ, ◌<◌, ◌≤◌, [], length, get_or, Some, None, Option, sym, refl, ap, ◌∙◌, arith, le-ltb, lt-ltb, eq-eqb, ne_eqb}
 use lib.ListN.{length-map}
 use Rattle.deduction.specs.Term.{Term}
 use Rattle.terms.specs.Listed.{listed}
@@ -9,7 +9,7 @@ use Rattle.scripts.specs.declared.script.Script.{Script}
 use Rattle.scripts.specs.Composing.{view}
 use Rattle.scripts.specs.Lines.{slot_of}
 use Rattle.scripts.specs.View.{written}
-use Rattle.scripts.proofs.View.{slot_find}
+use Rattle.scripts.proofs.View.{named_known, slot_find}
 use Rattle.rules.specs.Script.{Script as RuleScript, find}
 use Rattle.rules.specs.State.{State, Outcome, STEP, nth, name_of, step_tests, addresses, delivers, refuses, perform}
 use Rattle.rules.specs.State as rules
@@ -20,7 +20,7 @@ use Rattle.protocol.specs.declared.refusal.Refusal.TheVariants as refusals
 use Rattle.protocol.specs.declared.step.Delivery.{Delivery}
 use Rattle.protocol.specs.Outcome.{Performed, Sound}
 use Rattle.protocol.specs.Stepping.{Addressed}
-use Rattle.protocol.specs.View.{lines_of, steps_of, state_of}
+use Rattle.protocol.specs.View.{state_of}
 use Rattle.protocol.proofs.Asking.{state_script, state_no_script, agent_known}
 use Rattle.protocol.proofs.Reading.{agents_length, steps_length}
 use Rattle.protocol.proofs.Trees.{nth_trees, none_trees}
@@ -116,7 +116,7 @@ module _ (c : Content) (s : Sound c) where
   pub slot_at : (a to : ℕ) (d : Script) → a < c.agents → to < length (listed c.terms)
       → slot_of 0 (written (get_or c.scripts a d)) to ≡ find (get_or (state_of c).scripts a []) (tree (listed c.terms) to)
   slot_at a to d la lt =
-      slot_find (listed c.terms) (orderly c.terms) to lt (written (get_or c.scripts a d)) (agent_known c s a d la)
+      slot_find (listed c.terms) (orderly c.terms) to lt (written (get_or c.scripts a d)) (named_known _ _ (agent_known c s a d la))
       ∙ ap (λ v. find v (tree (listed c.terms) to)) (view_at a d la)
 
   -- all tests passed

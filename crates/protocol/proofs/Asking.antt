@@ -1,5 +1,5 @@
 -- Looking up agents and terms in the state, and what an agent can build.
-use Rattle.std.proofs.Common.{◌≡◌, ℕ, zero, suc, ◌<◌, ◌≤◌, Bool, true, false, not, List, [], ◌∷◌, map, length, get_or, is_some, Some, None, Option, sym, refl, ap, ◌∙◌, arith}
+use Rattle.std.proofs.Common.{◌≡◌, ℕ, zero, suc, ◌<◌, ◌≤◌, Bool, true, false, not, List, [], ◌∷◌, map, length, get_or, is_some, Some, None, Option, sym, refl, ap, arith}
 use mathlib.Core.Bool.{false≢true}
 use Rattle.terms.specs.Listed.{listed}
 use Rattle.terms.specs.Tree.{tree}
@@ -7,10 +7,9 @@ use Rattle.scripts.specs.declared.script.Script.{Script}
 use Rattle.scripts.specs.Composing.{view, AllNamed, Lacks}
 use Rattle.scripts.specs.Lines.{script_of}
 use Rattle.scripts.specs.View.{written}
-use Rattle.rules.specs.Compose.{compose, composes}
+use Rattle.rules.specs.Compose.{composes}
 use Rattle.rules.specs.Script.{Script as RuleScript}
-use Rattle.deduction.specs.Term.{Term}
-use Rattle.rules.specs.State.{State, Unknown, CAN, asked, nth, with, outcome, refuses, perform}
+use Rattle.rules.specs.State.{CAN, nth}
 use Rattle.protocol.specs.declared.call.Answer.TheVariants.{Said, Refused}
 use Rattle.protocol.specs.declared.content.Content.{Content}
 use Rattle.protocol.specs.declared.refusal.Refusal.TheVariants as refusals

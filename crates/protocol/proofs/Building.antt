@@ -24,7 +24,7 @@ use Rattle.terms.proofs.Formed.{key_at, asymmetric_at}
 use Rattle.terms.proofs.Insert.{known_below}
 use Rattle.terms.proofs.Listed.{orderly}
 use Rattle.scripts.specs.declared.instruction.Line.{Line}
-use Rattle.rules.specs.State.{State, Call as RuleCall, BUILD, Refusal as RuleRefusal, Unknown, WrongKind, NoRoom, Told, formed, mated, outcome, refuses, refused, form_of, place_of, placed, builds, mates, perform}
+use Rattle.rules.specs.State.{State, Call as RuleCall, BUILD, Refusal as RuleRefusal, Unknown, WrongKind, NoRoom, Told, formed, mated, outcome, refuses, refused, form_of, place_of, placed, builds, perform}
 use Rattle.protocol.specs.declared.step.Step.{Step}
 use Rattle.protocol.specs.declared.call.Answer.TheVariants.{Number}
 use Rattle.protocol.specs.View.{trees, state_by, scripts_known, steps_known}

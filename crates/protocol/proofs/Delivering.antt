@@ -1,5 +1,5 @@
 -- The three scripts of a step.
-use Rattle.std.proofs.Common.{◌≡◌, ℕ, zero, suc, ◌<◌, ◌≤◌, Bool, true, false, cond, ltb, List, [], ◌∷◌, length, get_or, Some, None, Ok, Err, Option, Result, sym, refl, ap, ◌∙◌, subst, inl, inr, arith, le-ltb, lt-ltb}
+use Rattle.std.proofs.Common.{◌≡◌, ℕ, zero, suc, ◌<◌, true, false, List, [], ◌∷◌, length, get_or, Some, Ok, Err, sym, refl, ap, ◌∙◌, subst, inl, inr, arith, le-ltb, lt-ltb}
 use Rattle.deduction.specs.Term.{Kind, party, number, shared, public, table, function, Term, name, built, mate, Named, In}
 use Rattle.terms.specs.Listed.{listed}
 use Rattle.terms.specs.Tree.{tree}
@@ -7,7 +7,7 @@ use Rattle.terms.proofs.Listed.{orderly}
 use Rattle.scripts.specs.declared.instruction.ScriptError.{ScriptError}
 use Rattle.scripts.specs.declared.instruction.ScriptError.TheVariants.{Full, Missing}
 use Rattle.scripts.specs.declared.script.Script.{Script}
-use Rattle.scripts.specs.Composing.{view, AllNamed}
+use Rattle.scripts.specs.Composing.{view}
 use Rattle.scripts.specs.View.{written}
 use Rattle.scripts.proofs.View.{length_view}
 use Rattle.scripts.proofs.Writing.{written_few}
@@ -15,16 +15,15 @@ use Rattle.effects.specs.Effects.{Effects}
 use Rattle.effects.specs.Sending.{Sends}
 use Rattle.rules.specs.Script.{Script as RuleScript}
 use Rattle.rules.specs.Compose.{missing}
-use Rattle.rules.specs.Effects.{freshens, sent, received, overheard}
+use Rattle.rules.specs.Effects.{freshens, received, overheard}
 use Rattle.rules.specs.State.{State, Outcome, STEP, stepped, nth, party_names, party_of, name_of, fresh_names, place_of, too_long, missing_number, stepped_to, delivers, outcome, refuses, perform}
 use Rattle.rules.specs.State as rules
-use Rattle.rules.proofs.Nth.{nth_in, name_above}
+use Rattle.rules.proofs.Nth.{nth_in}
 use Rattle.protocol.specs.declared.call.Answer.TheVariants.{Refused}
 use Rattle.protocol.specs.declared.content.Content.{Content}
-use Rattle.protocol.specs.declared.content.delivering.Delivered.{Delivered}
-use Rattle.protocol.specs.declared.refusal.Refusal.TheVariants.{Unmakeable, ScriptFull}
+use Rattle.protocol.specs.declared.refusal.Refusal.TheVariants.{ScriptFull}
 use Rattle.protocol.specs.declared.step.Delivery.{Delivery}
-use Rattle.protocol.specs.Delivering.{refused_send, after_step, Grants}
+use Rattle.protocol.specs.Delivering.{refused_send, Grants}
 use Rattle.protocol.specs.Outcome.{Performed, Sound}
 use Rattle.protocol.specs.Stepping.{Addressed}
 use Rattle.protocol.specs.View.{state_of}

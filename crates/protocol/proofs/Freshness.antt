@@ -1,5 +1,5 @@
 -- The fresh names of a message, by marks.
-use Rattle.std.proofs.Common.{◌≡◌, ℕ, zero, suc, ◌+◌, ◌<◌, ◌≤◌, Bool, true, false, cond, List, [], ◌∷◌, length, get_or, Some, None, Option, sym, refl, ap, ◌∙◌, subst, arith}
+use Rattle.std.proofs.Common.{◌≡◌, ℕ, zero, suc, ◌+◌, ◌<◌, ◌≤◌, Bool, true, false, List, length, get_or, Some, None, Option, sym, refl, ap, ◌∙◌, subst, arith}
 use mathlib.Core.Bool.{false≢true}
 use mathlib.Core.Logic.{∥∥₁_elim}
 use Rattle.deduction.specs.Term.{public, Term, name, built, mate, Named, In}
@@ -9,13 +9,13 @@ use Rattle.terms.specs.declared.node.TermNode.TheVariants.{Name, Built, Mate}
 use Rattle.terms.specs.Held.{held_terms}
 use Rattle.terms.specs.Listed.{listed}
 use Rattle.terms.specs.Node.{node_at}
-use Rattle.terms.specs.Tree.{tree, tree_of}
+use Rattle.terms.specs.Tree.{tree}
 use Rattle.terms.proofs.Listed.{orderly}
 use Rattle.terms.proofs.Trees.{tree_at}
 use Rattle.effects.specs.Sending.{marked_from, marked_trees, NamesMarked, MateKnown, MatesKnown}
-use Rattle.freshness.specs.Fresh.{fresh_by, FreshNames}
+use Rattle.freshness.specs.Fresh.{FreshNames}
 use Rattle.freshness.proofs.Naming.{fresh_by_rules}
-use Rattle.rules.specs.State.{State, is_fresh, fresh_among, fresh_names, place_of}
+use Rattle.rules.specs.State.{is_fresh, fresh_among, fresh_names, place_of}
 use Rattle.rules.proofs.Law.{came_stable}
 use Rattle.rules.proofs.Nth.{place_is, place_none, nth_below, some_is}
 use Rattle.protocol.specs.declared.content.Content.{Content}

@@ -1,18 +1,16 @@
 -- Putting a step's scripts in place.
-use Rattle.std.proofs.Common.{◌≡◌, ℕ, ◌+◌, ◌<◌, ◌≤◌, Bool, true, List, [], ◌∷◌, ◌++◌, map, length, get_or, take, set, sym, refl, ap, ◌∙◌, subst, ap₂, arith, length-set}
+use Rattle.std.proofs.Common.{◌≡◌, ℕ, ◌+◌, ◌<◌, List, [], ◌∷◌, ◌++◌, map, length, take, set, sym, refl, ap, ◌∙◌, ap₂, arith, length-set}
 use lib.Seq.{take-set-lt}
-use Rattle.std.proofs.lemmas.List.{map-set, get_or-map, take_more_set}
+use Rattle.std.proofs.lemmas.List.{map-set, take_more_set}
 use Rattle.terms.specs.declared.node.TermNode.{TermNode}
 use Rattle.terms.specs.Listed.{listed}
 use Rattle.terms.specs.Tree.{tree}
 use Rattle.scripts.specs.declared.instruction.Line.{Line}
-use Rattle.scripts.specs.declared.script.Script.{Script}
-use Rattle.scripts.specs.Composing.{view, AllNamed}
+use Rattle.scripts.specs.Composing.{view}
 use Rattle.scripts.specs.Lines.{script_of}
 use Rattle.scripts.specs.View.{written}
 use Rattle.scripts.proofs.View.{length_view}
-use Rattle.rules.specs.State.{State, Step as RuleStep, STEP, stepped, perform}
-use Rattle.rules.proofs.Nth.{nth_at, some_is}
+use Rattle.rules.specs.State.{Step as RuleStep, STEP, stepped}
 use Rattle.protocol.specs.declared.call.Answer.TheVariants.{Number}
 use Rattle.protocol.specs.declared.content.Content.{Content}
 use Rattle.protocol.specs.declared.content.delivering.Delivered.{Delivered}
@@ -21,11 +19,10 @@ use Rattle.protocol.specs.declared.step.Step.{Step}
 use Rattle.protocol.specs.Delivering.{after_step, Grants, step_with, Granted}
 use Rattle.protocol.specs.Outcome.{Performed, Sound}
 use Rattle.protocol.specs.Stepping.{Addressed}
-use Rattle.protocol.specs.View.{lines_of, steps_of, step_of, state_by, state_of, are_all_known, scripts_known, steps_known}
+use Rattle.protocol.specs.View.{lines_of, steps_of, step_of, state_by, state_of, scripts_known, steps_known}
 use Rattle.protocol.proofs.Known.{and_both, set_known, step_known, all_scripts, all_steps}
 use Rattle.protocol.proofs.Performing.{performed_by}
 use Rattle.protocol.proofs.Reaching.{reached_next}
-use Rattle.protocol.proofs.Reading.{agents_length, steps_length, script_at}
 use Rattle.protocol.proofs.Addressing.{state_steps}
 
 map_more : {A B : Type 0} (f : A → B) (xs : List A) (x : A) → map f (xs ++ (x ∷ [])) ≡ map f xs ++ (f x ∷ [])
@@ -33,13 +30,10 @@ map_more f [] x = refl
 map_more f (y ∷ xs) x = ap (λ r. f y ∷ r) (map_more f xs x)
 
 -- a record by its lengths
-pub same_step : (a b n f g : ℕ) (d : Delivered) (f' s' g' r' h' : ℕ) → f' ≡ f → s' ≡ length (written d.sent) → g' ≡ g → r' ≡ length (written d.received) → h' ≡ length (written d.heard)
-    → ◌≡◌ {A = Step} (record { sender = a; receiver = b; message = n; sent_from = f'; sent = s'; received_from = g'; received = r'; heard = h' })
-    (record { sender = a; receiver = b; message = n; sent_from = f; sent = length (written d.sent); received_from = g; received = length (written d.received); heard = length (written d.heard) })
-same_step a b n f g d f' s' g' r' h' e1 e2 e3 e4 e5 = rw (e1, e2, e3, e4, e5) refl
-
-pub lines_at : (c : Content) (s : Sound c) (p : ℕ) (d : Script) → p < c.agents → length (written (get_or c.scripts p d)) ≡ length (get_or (lines_of c) p [])
-lines_at c s p d l = ap length (some_is (sym (script_at c s p d l) ∙ nth_at (lines_of c) p [] (omega (arith, l, agents_length c s))))
+pub same_step : (a b n : ℕ) (d : Delivered) (s' r' h' : ℕ) → s' ≡ length (written d.sent) → r' ≡ length (written d.received) → h' ≡ length (written d.heard)
+    → ◌≡◌ {A = Step} (record { sender = a; receiver = b; message = n; sent = s'; received = r'; heard = h' })
+    (record { sender = a; receiver = b; message = n; sent = length (written d.sent); received = length (written d.received); heard = length (written d.heard) })
+same_step a b n d s' r' h' e1 e2 e3 = rw (e1, e2, e3) refl
 
 module _ (c : Content) (s : Sound c) (a b n : ℕ) (la : a < c.agents) (lb : b < c.agents) (room : c.granted < 64) (d : Delivered) where
   three_lines : take c.agents (map written (set (set (set c.scripts a d.sent) b d.received) 0 d.heard))
@@ -91,14 +85,10 @@ module _ (c : Content) (s : Sound c) (a b n : ℕ) (w : Delivery) (ad : Addresse
       ∙ ap (λ v. set v 0 (f (written d.heard)))
       (map-set f (set (lines_of c) a (written d.sent)) b (written d.received) ∙ ap (λ v. set v b (f (written d.received))) (map-set f (lines_of c) a (written d.sent)))
 
-  from_is : (p : ℕ) → p < c.agents → length (get_or (lines_of c) p []) ≡ length (get_or (state_of c).scripts p [])
-  from_is p l =
-      sym (ap length (get_or-map (script_of (tree (listed c.terms))) (lines_of c) p [] [] (omega (arith, l, agents_length c s))) ∙ length_view (tree (listed c.terms)) (get_or (lines_of c) p []))
-
-  same_rule : (m : _) (f f' x x' h h' y y' z z' : ℕ) → f ≡ f' → x ≡ x' → h ≡ h' → y ≡ y' → z ≡ z'
-      → ◌≡◌ {A = RuleStep} (record { sender = a; receiver = b; message = m; sent_from = f; sent = x; received_from = h; received = y; heard = z })
-      (record { sender = a; receiver = b; message = m; sent_from = f'; sent = x'; received_from = h'; received = y'; heard = z' })
-  same_rule m f f' x x' h h' y y' z z' e1 e2 e3 e4 e5 = rw (e1, e2, e3, e4, e5) refl
+  same_rule : (m : _) (x x' y y' z z' : ℕ) → x ≡ x' → y ≡ y' → z ≡ z'
+      → ◌≡◌ {A = RuleStep} (record { sender = a; receiver = b; message = m; sent = x; received = y; heard = z })
+      (record { sender = a; receiver = b; message = m; sent = x'; received = y'; heard = z' })
+  same_rule m x x' y y' z z' e1 e2 e3 = rw (e1, e2, e3) refl
 
   after_is : state_of c' ≡ after_step c a b n (view (listed c.terms) d.sent) (view (listed c.terms) d.received) (view (listed c.terms) d.heard)
   after_is =
@@ -107,7 +97,7 @@ module _ (c : Content) (s : Sound c) (a b n : ℕ) (w : Delivery) (ad : Addresse
       ∙ ap₂ (λ ss xs. record { terms = (state_of c).terms; scripts = ss; steps = xs }) scripts_are
       (map_more (step_of T) (steps_of c) (step_with c a b n d)
       ∙ ap (λ x. (state_of c).steps ++ (x ∷ []))
-      (same_rule (T n) _ _ _ _ _ _ _ _ _ _ (from_is a ad.sender_below) (sym (length_view T (written d.sent))) (from_is b ad.receiver_below) (sym (length_view T (written d.received))) (sym (length_view T (written d.heard)))))
+      (same_rule (T n) _ _ _ _ _ _ (sym (length_view T (written d.sent))) (sym (length_view T (written d.received))) (sym (length_view T (written d.heard)))))
 
   pub step_performed : Performed (state_of c) (STEP a b n) (Number r) (state_of c')
   step_performed =

@@ -1,69 +1,131 @@
--- Where an agent's first step begins.
-use Rattle.std.proofs.Common.{◌≡◌, ℕ, zero, suc, ◌+◌, ◌<◌, ◌≤◌, Bool, true, false, cond, eqb, List, [], ◌∷◌, map, length, get_or, drop, Some, None, Option, sym, refl, ap, ◌∙◌, add-one, arith, drop-cons, get_or-take}
-use lib.ListN.{length-map}
-use lib.Seq.{drop-nil}
-use Rattle.std.proofs.lemmas.List.{get_or-map}
+-- Where an agent's part of a step begins, told from its script and the steps before.
+use Rattle.std.proofs.Common.{◌≡◌, ℕ, zero, suc, ◌+◌, ◌-◌, ◌<◌, ◌≤◌, List, [], ◌∷◌, ◌++◌, map, length, get_or, take, drop, Some, None, sym, refl, ap, ◌∙◌, arith}
+use Rattle.std.proofs.lemmas.List.{get_or-map, length-map}
+use Rattle.deduction.specs.Term.{party, Term, name}
 use Rattle.terms.specs.Listed.{listed}
 use Rattle.terms.specs.Tree.{tree}
+use Rattle.scripts.specs.declared.instruction.Instruction.{Instruction}
+use Rattle.scripts.specs.declared.instruction.Instruction.TheVariants.{Given, Fresh, From, To, Recv, Mate, Left, Right, Join, Seal, Digest, Entry, Open, Same, Send}
+use Rattle.scripts.specs.declared.instruction.Line.{Line}
 use Rattle.scripts.specs.declared.script.Script.{Script}
-use Rattle.scripts.specs.Lines.{script_of}
+use Rattle.scripts.specs.Lines.{op_of, script_of}
 use Rattle.scripts.specs.View.{written}
-use Rattle.scripts.proofs.View.{length_view}
 use Rattle.scripts.proofs.Judging.{get_d_past}
-use Rattle.parts.specs.Parts.{first_from, initial}
+use Rattle.parts.specs.Opening.{opens, opening}
+use Rattle.parts.specs.Parts.{initial, reached, begin}
+use Rattle.parts.proofs.Opening.{opens_within}
+use Rattle.parts.proofs.Reached.{reached_push}
 use Rattle.rules.specs.State.{nth}
+use Rattle.rules.proofs.Find.{some_none}
 use Rattle.rules.proofs.Nth.{nth_at, some_is}
 use Rattle.protocol.specs.declared.content.Content.{Content}
 use Rattle.protocol.specs.declared.step.Step.{Step}
 use Rattle.protocol.specs.Outcome.{Sound}
-use Rattle.protocol.specs.Reading.{part_begin}
+use Rattle.protocol.specs.Reading.{opens_by, opening_of, end_of}
 use Rattle.protocol.specs.View.{lines_of, steps_of, step_of, state_of}
-use Rattle.protocol.proofs.Reading.{agents_length, steps_length, script_at}
+use Rattle.protocol.proofs.Reading.{agents_length, script_at, step_at}
 
-none_here : (x y : Bool) (a b rest : ℕ) → None ≡ cond x (Some a) (cond y (Some b) None) → cond x a (cond y b rest) ≡ rest
-none_here true y a b rest e = let z : ◌≡◌ {A = ℕ} 0 1 = cc in absurd (omega arith)
-none_here false true a b rest e = let z : ◌≡◌ {A = ℕ} 0 1 = cc in absurd (omega arith)
-none_here false false a b rest e = refl
+-- an instruction opens as its tree does
+opens_view : (T : ℕ → Term) (o : Instruction) (n : ℕ) → opens (op_of T o) n ≡ opens_by o n
+opens_view T (Given t) n = refl
+opens_view T (Fresh t) n = refl
+opens_view T (From t) n = refl
+opens_view T (To t) n = refl
+opens_view T (Recv t) n = refl
+opens_view T (Mate i) n = refl
+opens_view T (Left i) n = refl
+opens_view T (Right i) n = refl
+opens_view T (Join i j) n = refl
+opens_view T (Seal i j) n = refl
+opens_view T (Digest i j) n = refl
+opens_view T (Entry i j) n = refl
+opens_view T (Open i j) n = refl
+opens_view T (Same i j) n = refl
+opens_view T (Send i j) n = refl
 
-some_here : (x y : Bool) (a b rest n : ℕ) → Some n ≡ cond x (Some a) (cond y (Some b) None) → cond x a (cond y b rest) ≡ n
-some_here true y a b rest n e = sym (some_is e)
-some_here false true a b rest n e = sym (some_is e)
-some_here false false a b rest n e = let z : ◌≡◌ {A = ℕ} 0 1 = cc in absurd (omega arith)
+opening_view : (T : ℕ → Term) (ls : List Line) → opening (script_of T ls) ≡ opening_of ls
+opening_view T [] = refl
+opening_view T (l ∷ ls) = ap (opens (op_of T l.op)) (opening_view T ls) ∙ opens_view T l.op (opening_of ls)
 
--- what is left of an agent's first step from a place on
-abbrev pub FirstFrom : Content → ℕ → ℕ → Type 0
-FirstFrom c p i =
-    initial (state_of c) p ≡ first_from (map (step_of (tree (listed c.terms))) (drop i (steps_of c))) (length (get_or (map (script_of (tree (listed c.terms))) (lines_of c)) p [])) p
+-- the lines from a place on
+drop_none : (ls : List Line) → drop (length ls) ls ≡ []
+drop_none [] = refl
+drop_none (l ∷ ls) = drop_none ls
 
-module _ (c : Content) (s : Sound c) (p i : ℕ) (d : Step) (inv : FirstFrom c p i) where
-  module _ (l : i < c.granted) where
-    here : drop i (steps_of c) ≡ get_or c.steps i d ∷ drop (i + 1) (steps_of c)
-    here = rw add-one (drop-cons (steps_of c) i d (omega (arith, l, steps_length c s))) ∙ ap (λ x. x ∷ drop (i + 1) (steps_of c)) (get_or-take c.granted c.steps i d l)
+drop_line : (ls : List Line) (i : ℕ) (l : Line) → nth ls i ≡ Some l → drop i ls ≡ l ∷ drop (suc i) ls
+drop_line [] i l e = absurd (some_none None e refl)
+drop_line (x ∷ ls) zero l e = ap (λ y. y ∷ ls) (some_is e)
+drop_line (x ∷ ls) (suc i) l e = drop_line ls i l e
 
-    from : initial (state_of c) p ≡ first_from (map (step_of (tree (listed c.terms))) (get_or c.steps i d ∷ drop (i + 1) (steps_of c))) (length (get_or (map (script_of (tree (listed c.terms))) (lines_of c)) p [])) p
-    from = inv ∙ ap (λ xs. first_from (map (step_of (tree (listed c.terms))) xs) (length (get_or (map (script_of (tree (listed c.terms))) (lines_of c)) p [])) p) here
+-- what is known of the opening with so many lines behind looked at
+pub record Behind (ls : List Line) (n behind opening : ℕ) : Type 0 where
+  pub is : opening ≡ opening_of (drop (n - behind) ls)
+  pub few : opening ≤ behind
+  pub all : n ≡ length ls
 
-    pub not_yet : None ≡ part_begin (get_or c.steps i d) p → FirstFrom c p (i + 1)
-    not_yet e = from ∙ none_here (eqb (get_or c.steps i d).sender p) (eqb (get_or c.steps i d).receiver p) _ _ _ e
+pub none_behind : (ls : List Line) (n : ℕ) → n ≡ length ls → Behind ls n 0 0
+none_behind ls n e =
+    let q : n - 0 ≡ length ls = omega arith in
+    record { is = sym (ap (λ m. opening_of (drop m ls)) q ∙ ap opening_of (drop_none ls)); few = omega arith; all = e }
 
-    pub begins_here : (n : ℕ) → Some n ≡ part_begin (get_or c.steps i d) p → n ≡ initial (state_of c) p
-    begins_here n e = sym (from ∙ some_here (eqb (get_or c.steps i d).sender p) (eqb (get_or c.steps i d).receiver p) _ _ _ n e)
+opens_few : (o : Instruction) (n m : ℕ) → n ≤ m → opens_by o n ≤ suc m
+opens_few o n m h =
+    let T : ℕ → Term = (λ i. name party i) in
+    let e = opens_view T o n in
+    let w = opens_within (op_of T o) n m h in
+    omega arith
 
-drop_all : {A : Type 0} (xs : List A) (i : ℕ) → length xs ≤ i → drop i xs ≡ []
-drop_all [] i l = drop-nil i
-drop_all (x ∷ xs) zero l = absurd (omega arith)
-drop_all (x ∷ xs) (suc i) l = drop_all xs i (omega arith)
+-- one line more
+pub one_behind : (ls : List Line) (n k o : ℕ) (l : Line) → Behind ls n k o → k < n → Some l ≡ nth ls (n - 1 - k) → Behind ls n (k + 1) (opens_by l.op o)
+one_behind ls n k o l b h e =
+    let p : n - 1 - k ≡ n - (k + 1) = omega arith in
+    let q : suc (n - (k + 1)) ≡ n - k = omega arith in
+    let d : drop (n - (k + 1)) ls ≡ l ∷ drop (n - k) ls =
+    drop_line ls (n - (k + 1)) l (ap (nth ls) (sym p) ∙ sym e) ∙ ap (λ m. l ∷ drop m ls) q in
+    let f = opens_few l.op o k b.few in
+    record { is = ap (opens_by l.op) b.is ∙ sym (ap opening_of d); few = omega arith; all = b.all }
 
-module _ (c : Content) (s : Sound c) (p i : ℕ) (l : c.granted ≤ i) (inv : FirstFrom c p i) where
-  none_left : initial (state_of c) p ≡ length (get_or (map (script_of (tree (listed c.terms))) (lines_of c)) p [])
-  none_left = inv ∙ ap (λ xs. first_from (map (step_of (tree (listed c.terms))) xs) (length (get_or (map (script_of (tree (listed c.terms))) (lines_of c)) p [])) p) (drop_all (steps_of c) i (omega (arith, l, steps_length c s)))
+-- there is a line
+pub line_behind : (ls : List Line) (n k o : ℕ) → Behind ls n k o → k < n → None ≡ nth ls (n - 1 - k) → ⊥
+line_behind ls n k o b h e =
+    some_none (nth ls (n - 1 - k)) (nth_at ls (n - 1 - k) (record { op = Given 0; holds = None }) (omega (arith, b.all))) (sym e)
 
-  pub all_initial : (d : Script) → p < c.agents → length (written (get_or c.scripts p d)) ≡ initial (state_of c) p
-  all_initial d lp =
+-- all lines
+pub all_behind : (ls : List Line) (n k o : ℕ) → Behind ls n k o → n ≤ k → o ≡ opening_of ls
+all_behind ls n k o b h = let q : n - k ≡ 0 = omega arith in b.is ∙ ap (λ m. opening_of (drop m ls)) q
+
+-- the first elements of a list
+take_next : {A : Type 0} (xs : List A) (k : ℕ) (x : A) → nth xs k ≡ Some x → take (suc k) xs ≡ take k xs ++ (x ∷ [])
+take_next [] k x e = absurd (some_none None e refl)
+take_next (y ∷ xs) zero x e = ap (λ z. z ∷ []) (some_is e)
+take_next (y ∷ xs) (suc k) x e = ap (λ zs. y ∷ zs) (take_next xs k x e)
+
+nth_map : {A B : Type 0} (f : A → B) (xs : List A) (k : ℕ) (x : A) → nth xs k ≡ Some x → nth (map f xs) k ≡ Some (f x)
+nth_map f [] k x e = absurd (some_none None e refl)
+nth_map f (y ∷ xs) zero x e = ap (λ z. Some (f z)) (some_is e)
+nth_map f (y ∷ xs) (suc k) x e = nth_map f xs k x e
+
+module _ (c : Content) (s : Sound c) (p : ℕ) where
+  -- the opening of the agent's script
+  pub agent_initial : (d : Script) → p < c.agents → opening_of (written (get_or c.scripts p d)) ≡ initial (state_of c) p
+  agent_initial d lp =
+      let T = tree (listed c.terms) in
       let e = some_is (sym (nth_at (lines_of c) p [] (omega (arith, lp, agents_length c s))) ∙ script_at c s p d lp) in
-      sym (none_left
-      ∙ ap length (get_or-map (script_of (tree (listed c.terms))) (lines_of c) p [] [] (omega (arith, lp, agents_length c s)))
-      ∙ length_view (tree (listed c.terms)) (get_or (lines_of c) p []) ∙ ap length e)
+      sym (ap opening (get_or-map (script_of T) (lines_of c) p [] [] (omega (arith, lp, agents_length c s)))
+      ∙ (opening_view T (get_or (lines_of c) p []) ∙ ap opening_of e))
 
   pub none_initial : c.agents ≤ p → 0 ≡ initial (state_of c) p
-  none_initial lp = sym (none_left ∙ ap length (get_d_past (map (script_of (tree (listed c.terms))) (lines_of c)) p [] (simp length-map (omega (arith, lp, agents_length c s)))))
+  none_initial lp =
+      sym (ap opening (get_d_past (map (script_of (tree (listed c.terms))) (lines_of c)) p []
+      (simp length-map (omega (arith, lp, agents_length c s)))))
+
+  -- one step more
+  pub one_earlier : (k n : ℕ) (d : Step) → k < c.granted → n ≡ begin (state_of c) k p → end_of (get_or c.steps k d) p n ≡ begin (state_of c) (k + 1) p
+  one_earlier k n d h e =
+      let f = step_of (tree (listed c.terms)) in
+      let x = get_or c.steps k d in
+      let q : suc k ≡ k + 1 = omega arith in
+      ap (end_of x p) e
+      ∙ (sym (ap (λ xs. reached xs (initial (state_of c) p) p) (take_next (map f (steps_of c)) k (f x) (nth_map f (steps_of c) k x (step_at c s k d h)))
+      ∙ reached_push (take k (state_of c).steps) (f x) (initial (state_of c) p) p)
+      ∙ ap (λ m. begin (state_of c) m p) q)

@@ -1,5 +1,5 @@
 -- Initial knowledge.
-use Rattle.std.proofs.Common.{◌≡◌, ℕ, zero, suc, ◌<◌, ◌≤◌, Bool, true, false, List, [], ◌∷◌, map, length, get_or, take, set, Some, None, Ok, Err, Option, sym, refl, ap, ◌∙◌, subst, arith, length-set, le-ltb, lt-ltb}
+use Rattle.std.proofs.Common.{◌≡◌, ℕ, ◌<◌, ◌≤◌, true, false, List, [], ◌∷◌, map, length, get_or, take, set, Ok, Err, sym, refl, ap, ◌∙◌, arith, length-set, le-ltb, lt-ltb}
 use lib.Seq.{take-set-lt}
 use Rattle.std.proofs.lemmas.List.{map-set}
 use Rattle.terms.specs.Listed.{listed}
@@ -7,13 +7,12 @@ use Rattle.terms.specs.Tree.{tree}
 use Rattle.scripts.specs.declared.instruction.ScriptError.{ScriptError}
 use Rattle.scripts.specs.declared.instruction.ScriptError.TheVariants.{Full, Missing}
 use Rattle.scripts.specs.declared.script.Script.{Script}
-use Rattle.scripts.specs.Composing.{view, AllNamed}
+use Rattle.scripts.specs.Composing.{view}
 use Rattle.scripts.specs.Lines.{script_of}
 use Rattle.scripts.specs.View.{written}
 use Rattle.scripts.proofs.View.{length_view}
 use Rattle.scripts.proofs.Writing.{written_few}
 use Rattle.effects.specs.Effects.{Effects}
-use Rattle.rules.specs.Script.{Script as RuleScript}
 use Rattle.rules.specs.Effects.{knows}
 use Rattle.rules.specs.State.{State, Step, KNOW, known, nth, has_no_steps, learns, too_long, outcome, refuses, perform}
 use Rattle.rules.specs.State as rules
@@ -22,9 +21,9 @@ use Rattle.protocol.specs.declared.content.Content.{Content}
 use Rattle.protocol.specs.declared.refusal.Refusal.TheVariants as refusals
 use Rattle.protocol.specs.Knowing.{Learned}
 use Rattle.protocol.specs.Outcome.{Performed, Sound}
-use Rattle.protocol.specs.View.{lines_of, steps_of, state_of, are_all_known, scripts_known, steps_known}
+use Rattle.protocol.specs.View.{lines_of, steps_of, state_of, scripts_known, steps_known}
 use Rattle.protocol.proofs.Addressing.{state_at, state_steps, view_at}
-use Rattle.protocol.proofs.Asking.{state_no_script, agent_known}
+use Rattle.protocol.proofs.Asking.{state_no_script}
 use Rattle.protocol.proofs.Known.{and_both, set_known, all_scripts, all_steps}
 use Rattle.protocol.proofs.Performing.{performed_by}
 use Rattle.protocol.proofs.Reaching.{reached_next}

@@ -1,5 +1,5 @@
 -- Numbers that stand in scripts and steps are numbers of terms.
-use Rattle.std.proofs.Common.{◌≡◌, ℕ, zero, suc, ◌<◌, ◌≤◌, Bool, true, false, ◌&&◌, ltb, List, [], ◌∷◌, ◌++◌, map, length, set, Some, None, Option, sym, refl, ap, ◌∙◌, arith, ltb-true, lt-ltb}
+use Rattle.std.proofs.Common.{◌≡◌, ℕ, zero, suc, ◌<◌, Bool, true, false, ◌&&◌, ltb, List, [], ◌∷◌, ◌++◌, length, set, Some, None, Option, sym, refl, ap, ◌∙◌, arith, ltb-true, lt-ltb}
 use mathlib.Core.Bool.{false≢true}
 use Rattle.terms.specs.Listed.{listed}
 use Rattle.scripts.specs.declared.instruction.Instruction.{Instruction}

@@ -1,16 +1,15 @@
 -- The law on refusals, from what the rules' answers say.
-use Rattle.std.proofs.Common.{◌≡◌, ℕ, Bool, true, false, cond, eqb, ltb, ◌⊎◌, List, [], length, get_or, Some, None, Ok, Err, Option, Result, sym, refl, ap, ◌∙◌, subst, inl, inr, arith}
+use Rattle.std.proofs.Common.{◌≡◌, ℕ, Bool, true, false, cond, eqb, ltb, ◌⊎◌, [], length, get_or, Ok, Err, Result, sym, refl, ap, ◌∙◌, subst, inl, inr, arith}
 use Rattle.deduction.specs.Term.{Term}
-use Rattle.rules.specs.Script.{Script, find}
+use Rattle.rules.specs.Script.{find}
 use Rattle.rules.specs.Compose.{compose}
 use Rattle.rules.specs.Effects.{freshens, sends, received, overheard}
 use Rattle.rules.specs.State.{State, Outcome, Told, stepped, asked, refused, STEP, CAN, Refusal as RuleRefusal, nth, with, name_of, fresh_names, too_long, perform}
 use Rattle.rules.specs.State as rules
-use Rattle.rules.specs.History.{History, Came, Stands, CanSend, AnsweredRight, RefusedStep}
-use Rattle.rules.specs.Theorems.{MissingTold, MissingFrom}
+use Rattle.rules.specs.History.{History, Came, Stands, AnsweredRight, RefusedStep}
+use Rattle.rules.specs.Theorems.{MissingTold}
 use Rattle.rules.proofs.Law.{answers_are_right_lem, missing_is_named}
 use Rattle.rules.proofs.Nth.{with_both}
-use Rattle.protocol.specs.declared.call.Answer.{Answer}
 use Rattle.protocol.specs.declared.call.Answer.TheVariants.{Number, Said, Refused}
 use Rattle.protocol.specs.declared.refusal.Refusal.{Refusal}
 use Rattle.protocol.specs.Laws.{StepRight, StepLaw, SaidRight, CanBuildLaw}

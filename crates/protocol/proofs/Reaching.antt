@@ -1,11 +1,9 @@
 -- States that came about by calls, and what holds of them.
-use Rattle.std.proofs.Common.{◌≡◌, true, List, [], ◌∷◌, map, length, sym, refl, ap, ◌∙◌, subst, arith}
+use Rattle.std.proofs.Common.{◌≡◌, [], ◌∷◌, sym, refl, arith}
 use mathlib.Core.Logic.{∥∥₁_elim, ∥∥₁_prop}
-use Rattle.terms.specs.Listed.{listed}
 use Rattle.rules.specs.State.{State, Call, blank, perform}
-use Rattle.rules.specs.History.{History, Came}
 use Rattle.protocol.specs.declared.content.Content.{Content}
-use Rattle.protocol.specs.View.{trees, lines_of, steps_of, state_by, state_of, are_all_known, scripts_known, steps_known, Blank}
+use Rattle.protocol.specs.View.{trees, state_by, state_of, Blank}
 use Rattle.protocol.specs.Outcome.{Sound}
 use Rattle.protocol.specs.Reached.{Reached}
 

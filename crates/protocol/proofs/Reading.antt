@@ -1,7 +1,6 @@
 -- Reading what a protocol holds.
-use Rattle.std.proofs.Common.{◌≡◌, ℕ, zero, suc, ◌<◌, ◌≤◌, List, [], ◌∷◌, map, length, get_or, take, Some, None, sym, refl, ap, ◌∙◌, subst, arith, length-take-le, get_or-take}
+use Rattle.std.proofs.Common.{◌≡◌, ℕ, ◌<◌, ◌≤◌, [], map, length, get_or, Some, None, ap, ◌∙◌, arith, length-take-le, get_or-take}
 use Rattle.std.proofs.lemmas.List.{get_or-map, length-map}
-use Rattle.scripts.specs.declared.instruction.Line.{Line}
 use Rattle.scripts.specs.declared.script.Script.{Script}
 use Rattle.scripts.specs.View.{written}
 use Rattle.rules.specs.State.{nth}

@@ -1,12 +1,11 @@
 -- Which names are used, by marks.
-use Rattle.std.proofs.Common.{◌≡◌, ℕ, zero, suc, ◌+◌, ◌<◌, ◌≤◌, Bool, true, false, ◌||◌, eqb, List, [], ◌∷◌, ◌++◌, map, length, get_or, take, Some, sym, refl, ap, ◌∙◌, ap₂, arith, length-take-le, take_all, get_or-take}
-use Rattle.std.proofs.lemmas.List.{take_more, get_or-map}
-use Rattle.deduction.specs.Term.{Kind, Term}
+use Rattle.std.proofs.Common.{◌≡◌, ℕ, ◌+◌, ◌<◌, ◌≤◌, Bool, false, ◌||◌, eqb, List, [], ◌∷◌, ◌++◌, map, length, get_or, take, sym, refl, ap, ◌∙◌, arith, take_all, get_or-take}
+use Rattle.std.proofs.lemmas.List.{take_more}
+use Rattle.deduction.specs.Term.{Kind}
 use Rattle.terms.specs.Held.{held_terms}
 use Rattle.terms.specs.Listed.{listed}
 use Rattle.terms.specs.Tree.{tree}
 use Rattle.terms.proofs.Listed.{listed_few}
-use Rattle.scripts.specs.declared.instruction.Line.{Line}
 use Rattle.scripts.specs.declared.script.Script.{Script}
 use Rattle.scripts.specs.Lines.{script_of}
 use Rattle.scripts.specs.View.{written}
@@ -14,8 +13,7 @@ use Rattle.freshness.specs.Fresh.{occurs_in}
 use Rattle.freshness.specs.Given.{given_in}
 use Rattle.freshness.specs.Marks.{Marked}
 use Rattle.freshness.proofs.Using.{marked_script, marked_term, unmarked_unused}
-use Rattle.rules.specs.Script.{Script as RuleScript}
-use Rattle.rules.specs.State.{Step as RuleStep, occurs, used_in, used_in_some, used_in_steps}
+use Rattle.rules.specs.State.{occurs, used_in, used_in_some, used_in_steps}
 use Rattle.rules.proofs.Nth.{some_is, nth_at}
 use Rattle.rules.proofs.Used.{or_assoc, or_false, used_more, used_steps_more}
 use Rattle.protocol.specs.declared.content.Content.{Content}

@@ -1,5 +1,5 @@
 -- What a step writes into the three scripts.
-use Rattle.std.specs.Prelude.{◌≡◌, ℕ, ◌+◌, List, [], ◌∷◌, ◌++◌, length, Ok, Err, Result, slice_index_or, slice_set}
+use Rattle.std.specs.Prelude.{◌≡◌, ℕ, ◌+◌, [], ◌∷◌, ◌++◌, length, Ok, Err, Result, slice_set}
 use Rattle.terms.specs.Listed.{listed}
 use Rattle.terms.specs.Tree.{tree}
 use Rattle.scripts.specs.declared.instruction.ScriptError.{ScriptError}
@@ -7,7 +7,7 @@ use Rattle.scripts.specs.declared.instruction.ScriptError.TheVariants.{Full, Mis
 use Rattle.scripts.specs.Composing.{view, AllNamed}
 use Rattle.scripts.specs.View.{written}
 use Rattle.rules.specs.Script.{Script as RuleScript}
-use Rattle.rules.specs.State.{State, Step as RuleStep, STEP, stepped, outcome, perform}
+use Rattle.rules.specs.State.{State, STEP, stepped, outcome, perform}
 use Rattle.protocol.specs.declared.call.Answer.TheVariants.{Refused}
 use Rattle.protocol.specs.declared.content.Content.{Content}
 use Rattle.protocol.specs.declared.content.delivering.Delivered.{Delivered}
@@ -31,9 +31,7 @@ after_step c a b n sa sb sl = record {
     sender = a;
     receiver = b;
     message = tree (listed c.terms) n;
-    sent_from = length (slice_index_or (state_of c).scripts a []);
     sent = length sa;
-    received_from = length (slice_index_or (state_of c).scripts b []);
     received = length sb;
     heard = length sl;
   } ∷ []);
@@ -59,9 +57,7 @@ step_with c a b n d = record {
   sender = a;
   receiver = b;
   message = n;
-  sent_from = length (slice_index_or (lines_of c) a []);
   sent = length (written d.sent);
-  received_from = length (slice_index_or (lines_of c) b []);
   received = length (written d.received);
   heard = length (written d.heard);
 }

@@ -1,5 +1,5 @@
 -- The law on refusals: what the answers of steps and of can-build say of building, in the words of the calls that were made.
-use Rattle.std.specs.Prelude.{◌≡◌, ℕ, Bool, Ok, Err, Decides, Result}
+use Rattle.std.specs.Prelude.{ℕ, Bool, Ok, Err, Decides, Result}
 use Rattle.deduction.specs.Term.{Term}
 use Rattle.rules.specs.State.{State}
 use Rattle.rules.specs.History.{History, Came, Stands, CanBuild, CanSend}

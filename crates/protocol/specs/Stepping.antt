@@ -1,12 +1,12 @@
 -- What a step is judged by.
 use Rattle.std.specs.Prelude.{◌≡◌, ℕ, ◌<◌, Bool, List, [], length, Some, Ok, Err, Result, slice_index_or}
-use Rattle.deduction.specs.Term.{Kind, Term}
+use Rattle.deduction.specs.Term.{Kind}
 use Rattle.terms.specs.Held.{held_terms}
 use Rattle.terms.specs.Listed.{listed}
 use Rattle.terms.specs.Tree.{tree}
 use Rattle.freshness.specs.Fresh.{occurs_in}
-use Rattle.rules.specs.Script.{Script as RuleScript, find}
-use Rattle.rules.specs.State.{State, STEP, nth, name_of, used, used_in_some}
+use Rattle.rules.specs.Script.{find}
+use Rattle.rules.specs.State.{STEP, name_of, used, used_in_some}
 use Rattle.protocol.specs.declared.call.Answer.TheVariants.{Refused}
 use Rattle.protocol.specs.declared.content.Content.{Content}
 use Rattle.protocol.specs.declared.step.Delivery.{Delivery}

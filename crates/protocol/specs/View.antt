@@ -1,5 +1,5 @@
 -- What a protocol's memory stands for: a state of the rules.
-use Rattle.std.specs.Prelude.{◌≡◌, ℕ, zero, suc, ◌+◌, Bool, true, false, ◌&&◌, List, [], ◌∷◌, map, length, take, Some, None, Option, nat_lt}
+use Rattle.std.specs.Prelude.{◌≡◌, ℕ, zero, suc, ◌+◌, Bool, true, ◌&&◌, List, [], ◌∷◌, map, length, take, Some, None, Option, nat_lt}
 use Rattle.deduction.specs.Term.{Term}
 use Rattle.terms.specs.declared.node.TermNode.{TermNode}
 use Rattle.terms.specs.Listed.{listed}
@@ -9,7 +9,6 @@ use Rattle.scripts.specs.declared.instruction.Instruction.TheVariants.{Given, Fr
 use Rattle.scripts.specs.declared.instruction.Line.{Line}
 use Rattle.scripts.specs.Lines.{script_of}
 use Rattle.scripts.specs.View.{written}
-use Rattle.rules.specs.Script.{Script as RuleScript}
 use Rattle.rules.specs.State.{State, Step as RuleStep}
 use Rattle.protocol.specs.declared.step.Step.{Step}
 use Rattle.protocol.specs.declared.content.Content.{Content}
@@ -36,9 +35,7 @@ step_of T s = record {
   sender = s.sender;
   receiver = s.receiver;
   message = T s.message;
-  sent_from = s.sent_from;
   sent = s.sent;
-  received_from = s.received_from;
   received = s.received;
   heard = s.heard;
 }

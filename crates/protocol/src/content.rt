@@ -1,13 +1,13 @@
 // What a protocol consists of, without what holds of it.
 mod addressing;
 mod asking;
+mod begins;
 mod blank;
 mod building;
 mod delivering;
 mod knowing;
 mod names;
 mod naming;
-mod parts;
 mod shown;
 mod stepping;
 

@@ -7,15 +7,13 @@ pub type Agent = usize;
 // The listener, who hears every message.
 pub const LISTENER: Agent = 0;
 
-// A granted step: how long the scripts of its sender and its receiver were before it and are after it, and the listener's after it.
+// A granted step, and how long the scripts of its sender, its receiver and the listener are after it.
 #[derive(Clone, Copy, PartialEq, Eq, Debug)]
 pub struct Step {
     pub sender: Agent,
     pub receiver: Agent,
     pub message: TermId,
-    pub sent_from: usize,
     pub sent: usize,
-    pub received_from: usize,
     pub received: usize,
     pub heard: usize,
 }

@@ -15,7 +15,7 @@ use Rattle.rules.proofs.Nth.{some_is}
 use Rattle.valuation.specs.Fit.{at, terms_of}
 use Rattle.parts.specs.Kinds.{Starts, Prepares, Takes}
 use Rattle.parts.specs.Law.{Wrote}
-use Rattle.parts.specs.Parts.{script_of as scriptIn, initial, reached, Each, StepWrote}
+use Rattle.parts.specs.Parts.{script_of as scriptIn, initial, reached, begin, Each, StepWrote}
 use Rattle.parts.proofs.Reached.{part_end, reached_push, by_cases}
 use Rattle.acting.specs.Standing.{Alone}
 use Rattle.protocol.specs.declared.step.Step.{Step}
@@ -161,11 +161,11 @@ module _ (ts : List TermNode) (ps : List (List Line)) (ss : List Step) (wrote : 
       }
 
   module _ (l : ℕ) (x : Step) (E : ℕ → ℕ) (w : StepWrote st (take l st.steps) (step_of T x)) (agree : (p : ℕ) → 1 ≤ p → p < length ps → E p ≡ reached (take l st.steps) (initial st p) p) where
-    sends_alone : AllAlone ts ps (lines_at ps x.sender) x.sent_from x.sent
+    sends_alone : AllAlone ts ps (lines_at ps x.sender) (begin st l x.sender) x.sent
     sends_alone k y a b d = go (cases_lt k (x.sent - 1))
       where
         go : (k < x.sent - 1) ⊎ (x.sent - 1 ≤ k) → Alone y.op
-        go (inl q) = alone_of T y.op (prepares_alone (op_of T y.op) (each_line Prepares x.sender x.sent_from (x.sent - 1) w.sends.prepares k y a q d))
+        go (inl q) = alone_of T y.op (prepares_alone (op_of T y.op) (each_line Prepares x.sender (begin st l x.sender) (x.sent - 1) w.sends.prepares k y a q d))
         go (inr q) =
             let k-is : x.sent - 1 ≡ k = omega arith in
             let v = view_nth T (lines_at ps x.sender) k y d in
@@ -173,24 +173,24 @@ module _ (ts : List TermNode) (ps : List (List Line)) (ss : List Step) (wrote : 
             let e = some_is (sym v ∙ u) in
             alone_of T y.op (subst AloneOp (sym (ap (λ (z : RuleLine). z.op) e)) tt)
 
-    send_fits : TaskFits ts ps E (send_task l x)
+    send_fits : TaskFits ts ps E (send_task st l x)
     send_fits = record {
       from = w.sender_from;
       below = omega (arith, w.sender_below, agents);
-      ready = agree x.sender w.sender_from (omega (arith, w.sender_below, agents)) ∙ sym w.sent_next;
+      ready = agree x.sender w.sender_from (omega (arith, w.sender_below, agents));
       order = omega (arith, w.sends.some);
       inside = omega (arith, w.sends.within, script_long x.sender);
       role_fits = sends_alone;
     }
 
     abbrev E₁ : ℕ → ℕ
-    E₁ = after E (send_task l x)
+    E₁ = after E (send_task st l x)
 
-    receive_fits : TaskFits ts ps E₁ (receive_task l x)
+    receive_fits : TaskFits ts ps E₁ (receive_task st l x)
     receive_fits = record {
       from = w.receiver_from;
       below = omega (arith, w.receiver_below, agents);
-      ready = after_other E (send_task l x) x.receiver w.different ∙ (agree x.receiver w.receiver_from (omega (arith, w.receiver_below, agents)) ∙ sym w.received_next);
+      ready = after_other E (send_task st l x) x.receiver w.different ∙ agree x.receiver w.receiver_from (omega (arith, w.receiver_below, agents));
       order = omega (arith, w.receives.some);
       inside = omega (arith, w.receives.within, script_long x.receiver);
       role_fits = record {
@@ -199,40 +199,40 @@ module _ (ts : List TermNode) (ps : List (List Line)) (ss : List Step) (wrote : 
         named = w.sender_is;
         sender_from = w.sender_from;
         sender_below = omega (arith, w.sender_below, agents);
-        done = (let q = after_own E (send_task l x) x.sender refl in omega arith);
+        done = (let q = after_own E (send_task st l x) x.sender refl in omega arith);
         some = omega (arith, w.sends.some);
         is = ap (λ s. at (terms_of s) (x.sent - 1)) (sym (view_script T ps x.sender)) ∙ w.sends.sent_is;
-        takes = λ k y a b d. each_line (Takes w.sender_name (T x.message)) x.receiver x.received_from x.received w.receives.takes k y a b d;
+        takes = λ k y a b d. each_line (Takes w.sender_name (T x.message)) x.receiver (begin st l x.receiver) x.received w.receives.takes k y a b d;
       };
     }
 
   -- after both parts of a step
-  both_after : (l : ℕ) (x : Step) (E : ℕ → ℕ) (p : ℕ) → (x.sender ≡ x.receiver → ⊥) → after (after E (send_task l x)) (receive_task l x) p ≡ part_end (step_of T x) (E p) p
+  both_after : (l : ℕ) (x : Step) (E : ℕ → ℕ) (p : ℕ) → (x.sender ≡ x.receiver → ⊥) → after (after E (send_task st l x)) (receive_task st l x) p ≡ part_end (step_of T x) (E p) p
   both_after l x E p d =
-      by_cases x.sender x.receiver x.sent x.received (E p) (λ n. after (after E (send_task l x)) (receive_task l x) p ≡ n) p
-      (λ e. after_other (after E (send_task l x)) (receive_task l x) p (λ q. d (e ∙ sym q)) ∙ after_own E (send_task l x) p e)
-      (λ n e. after_own (after E (send_task l x)) (receive_task l x) p e)
-      (λ n q. after_other (after E (send_task l x)) (receive_task l x) p q ∙ after_other E (send_task l x) p n)
+      by_cases x.sender x.receiver x.sent x.received (E p) (λ n. after (after E (send_task st l x)) (receive_task st l x) p ≡ n) p
+      (λ e. after_other (after E (send_task st l x)) (receive_task st l x) p (λ q. d (e ∙ sym q)) ∙ after_own E (send_task st l x) p e)
+      (λ n e. after_own (after E (send_task st l x)) (receive_task st l x) p e)
+      (λ n q. after_other (after E (send_task st l x)) (receive_task st l x) p q ∙ after_other E (send_task st l x) p n)
 
   -- the steps from l on
   steps_fit : (xs : List Step) (l : ℕ) (E : ℕ → ℕ) → ((k : ℕ) (x : Step) → nth xs k ≡ Some x → nth ss (l + k) ≡ Some x)
-      → ((p : ℕ) → 1 ≤ p → p < length ps → E p ≡ reached (take l st.steps) (initial st p) p) → AllFit ts ps E (step_tasks l xs)
+      → ((p : ℕ) → 1 ≤ p → p < length ps → E p ≡ reached (take l st.steps) (initial st p) p) → AllFit ts ps E (step_tasks st l xs)
   steps_fit [] l E there agree = tt
   steps_fit (x ∷ xs) l E there agree =
       let z : l + 0 ≡ l = omega arith in
       let here : nth st.steps l ≡ Some (step_of T x) = view_step T ss l x (rw z at (there 0 x refl)) in
       let w = wrote.steps l (step_of T x) here in
-      let E₂ = after (after E (send_task l x)) (receive_task l x) in
+      let E₂ = after (after E (send_task st l x)) (receive_task st l x) in
       let next : (p : ℕ) → 1 ≤ p → p < length ps → E₂ p ≡ reached (take (l + 1) st.steps) (initial st p) p =
       (λ p u v. both_after l x E p w.different ∙ (ap (λ n. part_end (step_of T x) n p) (agree p u v)
       ∙ (sym (reached_push (take l st.steps) (step_of T x) (initial st p) p) ∙ ap (λ us. reached us (initial st p) p) (sym (take_next st.steps l (step_of T x) here))))) in
       (send_fits l x E w agree, (receive_fits l x E w agree, steps_fit xs (l + 1) E₂ (λ k y e. let q : l + suc k ≡ (l + 1) + k = omega arith in rw q at (there (suc k) y e)) next))
 
   -- and how far scripts are done after them
-  steps_after : (xs : List Step) (l : ℕ) (E : ℕ → ℕ) → ((k : ℕ) (x : Step) → nth xs k ≡ Some x → x.sender ≡ x.receiver → ⊥) → (p : ℕ) → after_all E (step_tasks l xs) p ≡ reached (map (step_of T) xs) (E p) p
+  steps_after : (xs : List Step) (l : ℕ) (E : ℕ → ℕ) → ((k : ℕ) (x : Step) → nth xs k ≡ Some x → x.sender ≡ x.receiver → ⊥) → (p : ℕ) → after_all E (step_tasks st l xs) p ≡ reached (map (step_of T) xs) (E p) p
   steps_after [] l E d p = refl
   steps_after (x ∷ xs) l E d p =
-      steps_after xs (l + 1) (after (after E (send_task l x)) (receive_task l x)) (λ k y e. d (suc k) y e) p ∙ ap (λ n. reached (map (step_of T) xs) n p) (both_after l x E p (d 0 x refl))
+      steps_after xs (l + 1) (after (after E (send_task st l x)) (receive_task st l x)) (λ k y e. d (suc k) y e) p ∙ ap (λ n. reached (map (step_of T) xs) n p) (both_after l x E p (d 0 x refl))
 
   -- the starts of k parties from p on
   starts_fit : (k p : ℕ) (E : ℕ → ℕ) → 1 ≤ p → p + k ≤ length ps → ((q : ℕ) → p ≤ q → E q ≡ 0) → AllFit ts ps E (starts_from st p k)
@@ -266,12 +266,12 @@ module _ (ts : List TermNode) (ps : List (List Line)) (ss : List Step) (wrote : 
   -- all tasks of the run fit
   pub all_fit : 1 ≤ length ps → AllFit ts ps nowhere (tasks_of ts ps ss)
   all_fit some =
-      fit_append ts ps (start_tasks st (length ps)) (step_tasks 0 ss) nowhere (starts_fit (length ps - 1) 1 nowhere (omega arith) (omega arith) (λ q h. refl))
+      fit_append ts ps (start_tasks st (length ps)) (step_tasks st 0 ss) nowhere (starts_fit (length ps - 1) 1 nowhere (omega arith) (omega arith) (λ q h. refl))
       (steps_fit ss 0 (after_all nowhere (start_tasks st (length ps))) (λ k x e. let z : 0 + k ≡ k = omega arith in rw z e) started)
 
   -- and in the end every party's script is done
   pub all_done : (p : ℕ) → 1 ≤ p → p < length ps → after_all nowhere (tasks_of ts ps ss) p ≡ length (lines_at ps p)
   all_done p u v =
-      after_append (start_tasks st (length ps)) (step_tasks 0 ss) nowhere p
+      after_append (start_tasks st (length ps)) (step_tasks st 0 ss) nowhere p
       ∙ (steps_after ss 0 (after_all nowhere (start_tasks st (length ps))) (λ k x e. (wrote.steps k (step_of T x) (view_step T ss k x e)).different) p
       ∙ (ap (λ n. reached st.steps n p) (started p u v) ∙ ((wrote.parties p u (omega (arith, agents))).all ∙ script_long p)))

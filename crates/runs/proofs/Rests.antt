@@ -125,11 +125,11 @@ pub starts_end : (st : State) (n p : ℕ) → n ≤ p → starts_from st p (n - 
 starts_end st n p l = let z : n - p ≡ 0 = omega arith in rw z refl
 
 -- the tasks of the steps from l on
-pub steps_more : (ss : List Step) (l : ℕ) (x : Step) (o : Option Step) → o ≡ nth ss l → o ≡ Some x → step_tasks l (drop l ss) ≡ both_tasks l x ++ step_tasks (l + 1) (drop (l + 1) ss)
-steps_more ss l x o w e = ap (step_tasks l) (drop_nth ss l x (sym w ∙ e)) ∙ rw add-one refl
+pub steps_more : (st : State) (ss : List Step) (l : ℕ) (x : Step) (o : Option Step) → o ≡ nth ss l → o ≡ Some x → step_tasks st l (drop l ss) ≡ both_tasks st l x ++ step_tasks st (l + 1) (drop (l + 1) ss)
+steps_more st ss l x o w e = ap (step_tasks st l) (drop_nth ss l x (sym w ∙ e)) ∙ rw add-one refl
 
-pub steps_none : (ss : List Step) (l : ℕ) (o : Option Step) → o ≡ nth ss l → o ≡ None → step_tasks l (drop l ss) ≡ []
-steps_none ss l o w e = ap (step_tasks l) (drop_none ss l (sym w ∙ e))
+pub steps_none : (st : State) (ss : List Step) (l : ℕ) (o : Option Step) → o ≡ nth ss l → o ≡ None → step_tasks st l (drop l ss) ≡ []
+steps_none st ss l o w e = ap (step_tasks st l) (drop_none ss l (sym w ∙ e))
 
-pub steps_end : (ss : List Step) (l : ℕ) → length ss ≤ l → step_tasks l (drop l ss) ≡ []
-steps_end ss l h = ap (step_tasks l) (drop_of_length-le ss h)
+pub steps_end : (st : State) (ss : List Step) (l : ℕ) → length ss ≤ l → step_tasks st l (drop l ss) ≡ []
+steps_end st ss l h = ap (step_tasks st l) (drop_of_length-le ss h)

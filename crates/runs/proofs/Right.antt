@@ -119,9 +119,9 @@ module _ {S X : Type 0} (f : Algebra X) (m : S → Meaning X) (ts : List TermNod
   abbrev Halted : RunFault → Task → Type 0
   Halted e t = StoppedAt f m ts ps readings s slots e t
 
-  step_done : (xs : List Step) (l k : ℕ) (x : Step) → AllDone f m ts ps readings s slots (step_tasks l xs) → nth xs k ≡ Some x → Done (send_task (l + k) x)
+  step_done : (xs : List Step) (l k : ℕ) (x : Step) → AllDone f m ts ps readings s slots (step_tasks (state_by ts ps ss) l xs) → nth xs k ≡ Some x → Done (send_task (state_by ts ps ss) (l + k) x)
   step_done [] l k x h e = let z : ◌≡◌ {A = ℕ} 0 1 = cc in absurd (omega arith)
-  step_done (y ∷ xs) l zero x h e = let p : y ≡ x = cc in subst (λ (q : Step). Done (send_task (l + 0) q)) p h.0
+  step_done (y ∷ xs) l zero x h e = let p : y ≡ x = cc in subst (λ (q : Step). Done (send_task (state_by ts ps ss) (l + 0) q)) p h.0
   step_done (y ∷ xs) l (suc k) x h e = step_done xs (l + 1) k x h.1.1 e
 
   stopped_either : (e : RunFault) (us vs : List Task) → Stopped f m ts ps readings s slots e (us ++ vs) → Stopped f m ts ps readings s slots e us ⊎ Stopped f m ts ps readings s slots e vs
@@ -144,17 +144,17 @@ module _ {S X : Type 0} (f : Algebra X) (m : S → Meaning X) (ts : List TermNod
     pub number : ℕ
     pub step : Step
     pub there : nth xs number ≡ Some step
-    pub where_stopped : Halted e (send_task (l + number) step) ⊎ (Done (send_task (l + number) step) × Halted e (receive_task (l + number) step))
-    pub before : (j : ℕ) (y : Step) → j < number → nth xs j ≡ Some y → Done (send_task (l + j) y)
+    pub where_stopped : Halted e (send_task (state_by ts ps ss) (l + number) step) ⊎ (Done (send_task (state_by ts ps ss) (l + number) step) × Halted e (receive_task (state_by ts ps ss) (l + number) step))
+    pub before : (j : ℕ) (y : Step) → j < number → nth xs j ≡ Some y → Done (send_task (state_by ts ps ss) (l + j) y)
 
-  step_stopped : (e : RunFault) (xs : List Step) (l : ℕ) → Stopped f m ts ps readings s slots e (step_tasks l xs) → StepStopped e xs l
+  step_stopped : (e : RunFault) (xs : List Step) (l : ℕ) → Stopped f m ts ps readings s slots e (step_tasks (state_by ts ps ss) l xs) → StepStopped e xs l
   step_stopped e [] l h = absurd h
   step_stopped e (x ∷ xs) l (inl h) =
       let z : l ≡ l + 0 = omega arith in
-      record { number = 0; step = x; there = refl; where_stopped = inl (subst (λ (k : ℕ). Halted e (send_task k x)) z h); before = λ j y b w. absurd (omega arith) }
+      record { number = 0; step = x; there = refl; where_stopped = inl (subst (λ (k : ℕ). Halted e (send_task (state_by ts ps ss) k x)) z h); before = λ j y b w. absurd (omega arith) }
   step_stopped e (x ∷ xs) l (inr (d, inl h)) =
       let z : l ≡ l + 0 = omega arith in
-      record { number = 0; step = x; there = refl; where_stopped = inr (d, subst (λ (k : ℕ). Halted e (receive_task k x)) z h); before = λ j y b w. absurd (omega arith) }
+      record { number = 0; step = x; there = refl; where_stopped = inr (d, subst (λ (k : ℕ). Halted e (receive_task (state_by ts ps ss) k x)) z h); before = λ j y b w. absurd (omega arith) }
   step_stopped e (x ∷ xs) l (inr (d, inr (d', h))) = go (step_stopped e xs (l + 1) h)
     where
       go : StepStopped e xs (l + 1) → StepStopped e (x ∷ xs) l
@@ -164,12 +164,12 @@ module _ {S X : Type 0} (f : Algebra X) (m : S → Meaning X) (ts : List TermNod
             number = suc w.number;
             step = w.step;
             there = w.there;
-            where_stopped = subst (λ (k : ℕ). Halted e (send_task k w.step) ⊎ (Done (send_task k w.step) × Halted e (receive_task k w.step))) z w.where_stopped;
+            where_stopped = subst (λ (k : ℕ). Halted e (send_task (state_by ts ps ss) k w.step) ⊎ (Done (send_task (state_by ts ps ss) k w.step) × Halted e (receive_task (state_by ts ps ss) k w.step))) z w.where_stopped;
             before = below;
           }
         where
-          below : (j : ℕ) (y : Step) → j < suc w.number → nth (x ∷ xs) j ≡ Some y → Done (send_task (l + j) y)
-          below zero y b q = let p : x ≡ y = cc in subst (λ (v : Step). Done (send_task (l + 0) v)) p d
+          below : (j : ℕ) (y : Step) → j < suc w.number → nth (x ∷ xs) j ≡ Some y → Done (send_task (state_by ts ps ss) (l + j) y)
+          below zero y b q = let p : x ≡ y = cc in subst (λ (v : Step). Done (send_task (state_by ts ps ss) (l + 0) v)) p d
           below (suc j) y b q = w.before j y (omega arith) q
 
   -- stopped for want of room
@@ -262,11 +262,11 @@ module _ (ts : List TermNode) (ps : List (List Line)) (ss : List Step) (past : H
       }
     where
       no_step : Step
-      no_step = record { sender = 0; receiver = 0; message = 0; sent_from = 0; sent = 0; received_from = 0; received = 0; heard = 0 }
+      no_step = record { sender = 0; receiver = 0; message = 0; sent = 0; received = 0; heard = 0 }
 
   module _ {S X : Type 0} (f : Algebra X) (m : S → Meaning X) (readings : List ℕ) (s : S) (slots : List ℕ) (loaded : Loaded f (m s).issued (tree ts) (length ts) readings) where
     -- a granted step whose sender's part is done was sent right
-    sent_right : (l a b n : ℕ) (t : Term) (w : Stored l a b n t) → TaskDone f m ts ps readings s slots (send_task l w.step) → Sent f m ps ss s readings slots l a b n t
+    sent_right : (l a b n : ℕ) (t : Term) (w : Stored l a b n t) → TaskDone f m ts ps readings s slots (send_task reached_state l w.step) → Sent f m ps ss s readings slots l a b n t
     sent_right l a b n t w d =
         let x = w.step in
         let v = wrote.steps l (step_of (tree ts) x) (view_step (tree ts) ss l x w.there) in
@@ -287,7 +287,7 @@ module _ (ts : List TermNode) (ps : List (List Line)) (ss : List Step) (past : H
     unstopped : AllDone f m ts ps readings s slots (tasks_of ts ps ss) → (l a b n : ℕ) (t : Term) → nth (granted past) l ≡ Some (a, b, n) → Stands past n t → Sent f m ps ss s readings slots l a b n t
     unstopped all l a b n t e h =
         let w = stored l a b n t e h in
-        sent_right l a b n t w (step_done f m ts ps ss readings s slots ss 0 l w.step (done_after f m ts ps readings s slots (start_tasks reached_state (length ps)) (step_tasks 0 ss) all) w.there)
+        sent_right l a b n t w (step_done f m ts ps ss readings s slots ss 0 l w.step (done_after f m ts ps readings s slots (start_tasks reached_state (length ps)) (step_tasks reached_state 0 ss) all) w.there)
 
     abbrev StoppedRight : RunFault → Type 0
     StoppedRight e =
@@ -327,12 +327,12 @@ module _ (ts : List TermNode) (ps : List (List Line)) (ss : List Step) (past : H
           let w = stored l a b n t g h in
           sent_right l a b n t w (k.before l w.step (omega arith) w.there)
 
-      stopped_sender : StoppedAt f m ts ps readings s slots e (send_task here x) → StoppedRight e
+      stopped_sender : StoppedAt f m ts ps readings s slots e (send_task reached_state here x) → StoppedRight e
       stopped_sender w =
           let v = wrote.steps here (step_of (tree ts) x) (view_step (tree ts) ss here x x_there) in
           let d : e.step ≡ here = ap (λ (z : RunFault). z.step) w.named in
           let p : e.party ≡ x.sender = ap (λ (z : RunFault). z.party) w.named in (
-            short_of f m ts ps ss readings s slots e (send_task here x) v.sender_from (omega (arith, v.sender_below, length-map ps (script_of (tree ts)))) (λ n a b. inr (x, x_there, inl (refl, a, b))) w,
+            short_of f m ts ps ss readings s slots e (send_task reached_state here x) v.sender_from (omega (arith, v.sender_below, length-map ps (script_of (tree ts)))) (λ n a b. inr (x, x_there, inl (refl, a, b))) w,
             λ l a b n t g h q. go d p v.different l a b n t g h q,
           )
         where
@@ -344,11 +344,11 @@ module _ (ts : List TermNode) (ps : List (List Line)) (ss : List Step) (past : H
               let r : x.receiver ≡ b = sym (ap (λ (z : Step). z.receiver) y) ∙ w.to in
               absurd (apart (sym p ∙ (sym q.1 ∙ sym r)))
 
-      stopped_receiver : TaskDone f m ts ps readings s slots (send_task here x) → StoppedAt f m ts ps readings s slots e (receive_task here x) → StoppedRight e
+      stopped_receiver : TaskDone f m ts ps readings s slots (send_task reached_state here x) → StoppedAt f m ts ps readings s slots e (receive_task reached_state here x) → StoppedRight e
       stopped_receiver done w =
           let v = wrote.steps here (step_of (tree ts) x) (view_step (tree ts) ss here x x_there) in
           let d : e.step ≡ here = ap (λ (z : RunFault). z.step) w.named in (
-            short_of f m ts ps ss readings s slots e (receive_task here x) v.receiver_from (omega (arith, v.receiver_below, length-map ps (script_of (tree ts)))) (λ n a b. inr (x, x_there, inr (refl, a, b))) w,
+            short_of f m ts ps ss readings s slots e (receive_task reached_state here x) v.receiver_from (omega (arith, v.receiver_below, length-map ps (script_of (tree ts)))) (λ n a b. inr (x, x_there, inr (refl, a, b))) w,
             λ l a b n t g h q. go d l a b n t g h q,
           )
         where
@@ -357,17 +357,17 @@ module _ (ts : List TermNode) (ps : List (List Line)) (ss : List Step) (past : H
           go d l a b n t g h (inr q) =
               let w = stored l a b n t g h in
               let y : w.step ≡ x = same_step here w.step x (ap (nth ss) (sym (q.0 ∙ d)) ∙ w.there) x_there in
-              sent_right l a b n t w (subst (λ (z : Step). TaskDone f m ts ps readings s slots (send_task l z)) (sym y) done)
+              sent_right l a b n t w (subst (λ (z : Step). TaskDone f m ts ps readings s slots (send_task reached_state l z)) (sym y) done)
 
-      stopped_step : StoppedAt f m ts ps readings s slots e (send_task here x) ⊎ (TaskDone f m ts ps readings s slots (send_task here x) × StoppedAt f m ts ps readings s slots e (receive_task here x)) → StoppedRight e
+      stopped_step : StoppedAt f m ts ps readings s slots e (send_task reached_state here x) ⊎ (TaskDone f m ts ps readings s slots (send_task reached_state here x) × StoppedAt f m ts ps readings s slots e (receive_task reached_state here x)) → StoppedRight e
       stopped_step (inl w) = stopped_sender w
       stopped_step (inr (d, w)) = stopped_receiver d w
 
     -- a run that was stopped in one of its tasks
     stopped : (e : RunFault) → Stopped f m ts ps readings s slots e (tasks_of ts ps ss) → StoppedRight e
-    stopped e h = go (stopped_either f m ts ps ss readings s slots e (start_tasks reached_state (length ps)) (step_tasks 0 ss) h)
+    stopped e h = go (stopped_either f m ts ps ss readings s slots e (start_tasks reached_state (length ps)) (step_tasks reached_state 0 ss) h)
       where
-        go : Stopped f m ts ps readings s slots e (start_tasks reached_state (length ps)) ⊎ Stopped f m ts ps readings s slots e (step_tasks 0 ss) → StoppedRight e
+        go : Stopped f m ts ps readings s slots e (start_tasks reached_state (length ps)) ⊎ Stopped f m ts ps readings s slots e (step_tasks reached_state 0 ss) → StoppedRight e
         go (inl w) = stopped_start e (start_stopped f m ts ps ss readings s slots e (length ps - 1) 1 w)
         go (inr w) = let k = step_stopped f m ts ps ss readings s slots e ss 0 w in stopped_step e k k.where_stopped
 

@@ -9,7 +9,7 @@ use Rattle.scripts.specs.declared.instruction.Line.{Line}
 use Rattle.rules.specs.State.{nth}
 use Rattle.rules.specs.History.{History, Came, Stands}
 use Rattle.parts.specs.Granted.{granted}
-use Rattle.parts.specs.Parts.{initial}
+use Rattle.parts.specs.Parts.{initial, begin}
 use Rattle.parts.specs.Sames.{sames_of}
 use Rattle.acting.specs.declared.halt.Halt.{Halt}
 use Rattle.acting.specs.declared.instruction.Part.{Part}
@@ -42,7 +42,7 @@ abbrev pub InPart : List TermNode → List (List Line) → List Step → RunFaul
 InPart ts ps ss e n =
     ((e.step ≡ 64) × (n < initial (state_by ts ps ss) e.party))
     ⊎ ((x : Step) × (nth ss e.step ≡ Some x)
-    × (((e.party ≡ x.sender) × (x.sent_from ≤ n) × (n < x.sent)) ⊎ ((e.party ≡ x.receiver) × (x.received_from ≤ n) × (n < x.received))))
+    × (((e.party ≡ x.sender) × (begin (state_by ts ps ss) e.step x.sender ≤ n) × (n < x.sent)) ⊎ ((e.party ≡ x.receiver) × (begin (state_by ts ps ss) e.step x.receiver ≤ n) × (n < x.received))))
 
 -- what was asked for does not fit: the making of the named term, or that of the named instruction of the named party's script
 abbrev pub Unfitting : {S X : Type 0} → (S → Meaning X) → List TermNode → List (List Line) → List Step → S → List ℕ → List ℕ → RunFault → ℕ → Type 0

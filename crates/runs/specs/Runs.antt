@@ -1,5 +1,5 @@
 -- What a run does and answers, and the law on runs.
-use Rattle.std.specs.Prelude.{◌≡◌, ℕ, ◌+◌, Bool, true, false, List, ◌++◌, length, Ok, Err, Result, MatchResult}
+use Rattle.std.specs.Prelude.{◌≡◌, ℕ, Bool, true, false, List, ◌++◌, length, Ok, Err, Result, MatchResult}
 use Rattle.provider.specs.Algebra.{Algebra}
 use Rattle.provider.specs.Meaning.{Meaning}
 use Rattle.terms.specs.declared.node.TermNode.{TermNode}
@@ -20,7 +20,7 @@ use Rattle.runs.specs.Tasks.{start_tasks, step_tasks, Tasks}
 
 -- the tasks of a run: every party is started, then every step is played
 abbrev pub tasks_of : List TermNode → List (List Line) → List Step → List Task
-tasks_of ts ps ss = start_tasks (state_by ts ps ss) (length ps) ++ step_tasks 0 ss
+tasks_of ts ps ss = start_tasks (state_by ts ps ss) (length ps) ++ step_tasks (state_by ts ps ss) 0 ss
 
 -- what a run answers, from what came of its tasks: the number of all steps with the number of comparisons
 abbrev pub played_of : ℕ → Result ℕ RunFault → Result Played RunFault

@@ -5,7 +5,7 @@ use Rattle.provider.specs.Meaning.{Meaning}
 use Rattle.terms.specs.declared.node.TermNode.{TermNode}
 use Rattle.scripts.specs.declared.instruction.Line.{Line}
 use Rattle.rules.specs.State.{State}
-use Rattle.parts.specs.Parts.{initial}
+use Rattle.parts.specs.Parts.{initial, begin}
 use Rattle.acting.specs.declared.halt.Halt.{Halt}
 use Rattle.acting.specs.declared.instruction.Part.{Part}
 use Rattle.acting.specs.declared.instruction.Part.TheVariants.{Start as STARTING, Send as SENDING, Receive as RECEIVING}
@@ -24,14 +24,14 @@ abbrev pub start_task : State → ℕ → Task
 start_task st p = record { step = 64; party = p; start = 0; end = initial st p; role = Start }
 
 -- what the sender does in the step of this number, and what the receiver does
-abbrev pub send_task : ℕ → Step → Task
-send_task l x = record { step = l; party = x.sender; start = x.sent_from; end = x.sent; role = Send }
+abbrev pub send_task : State → ℕ → Step → Task
+send_task st l x = record { step = l; party = x.sender; start = begin st l x.sender; end = x.sent; role = Send }
 
-abbrev pub receive_task : ℕ → Step → Task
-receive_task l x = record { step = l; party = x.receiver; start = x.received_from; end = x.received; role = Receive x.sender x.sent }
+abbrev pub receive_task : State → ℕ → Step → Task
+receive_task st l x = record { step = l; party = x.receiver; start = begin st l x.receiver; end = x.received; role = Receive x.sender x.sent }
 
-abbrev pub both_tasks : ℕ → Step → List Task
-both_tasks l x = send_task l x ∷ receive_task l x ∷ []
+abbrev pub both_tasks : State → ℕ → Step → List Task
+both_tasks st l x = send_task st l x ∷ receive_task st l x ∷ []
 
 -- the starts of k parties from p on
 abbrev pub starts_from : State → ℕ → ℕ → List Task
@@ -43,9 +43,9 @@ abbrev pub start_tasks : State → ℕ → List Task
 start_tasks st n = starts_from st 1 (n - 1)
 
 -- the parts of steps, the first of which has the number l
-abbrev pub step_tasks : ℕ → List Step → List Task
-step_tasks l [] = []
-step_tasks l (x ∷ xs) = send_task l x ∷ receive_task l x ∷ step_tasks (l + 1) xs
+abbrev pub step_tasks : State → ℕ → List Step → List Task
+step_tasks st l [] = []
+step_tasks st l (x ∷ xs) = send_task st l x ∷ receive_task st l x ∷ step_tasks st (l + 1) xs
 
 -- the reading of a term; 0 where there is none
 abbrev pub reading_of : List ℕ → Option ℕ → ℕ

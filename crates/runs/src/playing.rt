@@ -47,16 +47,22 @@ fn play_step<P: Provider>(
     number: usize,
     step: Step,
 ) -> Result<usize, RunFault>
-    ensures whole { Tasks P.algebra P.meaning (listed protocol.now.content.terms) (lines_of protocol.now.content) readings.now (both_tasks number step) provider.old slots.old result provider.new slots.new }
+    ensures whole { Tasks P.algebra P.meaning (listed protocol.now.content.terms) (lines_of protocol.now.content) readings.now (both_tasks (view_of protocol.now) number step) provider.old slots.old result provider.new slots.new }
     ensures few { IfOk result (λ n. n ≤ 1024) }
 {
-    let sent = perform(protocol, provider, readings, slots, send_task(number, step))?;
+    let sent = perform(
+        protocol,
+        provider,
+        readings,
+        slots,
+        send_task(protocol, number, step),
+    )?;
     let received = perform(
         protocol,
         provider,
         readings,
         slots,
-        receive_task(number, step),
+        receive_task(protocol, number, step),
     )?;
     Ok(sent + received)
 }
@@ -68,7 +74,7 @@ fn play_steps<P: Provider>(
     readings: &[Handle],
     slots: &mut [Handle],
 ) -> Result<usize, RunFault>
-    ensures whole { Tasks P.algebra P.meaning (listed protocol.now.content.terms) (lines_of protocol.now.content) readings.now (step_tasks 0 (steps_of protocol.now.content)) provider.old slots.old result provider.new slots.new }
+    ensures whole { Tasks P.algebra P.meaning (listed protocol.now.content.terms) (lines_of protocol.now.content) readings.now (step_tasks (view_of protocol.now) 0 (steps_of protocol.now.content)) provider.old slots.old result provider.new slots.new }
     ensures few { IfOk result (λ n. n ≤ 65536) }
 {
     let mut sames = 0;

@@ -42,32 +42,32 @@ pub(crate) fn start_task(protocol: &Protocol, party: Agent) -> Task
         step: BEFORE_STEPS,
         party,
         start: 0,
-        end: 0,
+        end: protocol.initial(party),
         role: Role::Start,
     }
 }
 
 // What the sender does in a step.
-pub(crate) fn send_task(number: usize, step: Step) -> Task
-    ensures { result ≡ send_task number step }
+pub(crate) fn send_task(protocol: &Protocol, number: usize, step: Step) -> Task
+    ensures { result ≡ send_task (view_of protocol.now) number step }
 {
     Task {
         step: number,
         party: step.sender,
-        start: step.sent_from,
+        start: protocol.begin(number, step.sender),
         end: step.sent,
         role: Role::Send,
     }
 }
 
 // What the receiver does in a step.
-pub(crate) fn receive_task(number: usize, step: Step) -> Task
-    ensures { result ≡ receive_task number step }
+pub(crate) fn receive_task(protocol: &Protocol, number: usize, step: Step) -> Task
+    ensures { result ≡ receive_task (view_of protocol.now) number step }
 {
     Task {
         step: number,
         party: step.receiver,
-        start: step.received_from,
+        start: protocol.begin(number, step.receiver),
         end: step.received,
         role: Role::Receive {
             sender: step.sender,

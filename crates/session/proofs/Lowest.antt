@@ -4,7 +4,7 @@ use Rattle.rules.specs.State.{nth}
 use Rattle.rules.proofs.Nth.{some_is}
 use Rattle.acting.proofs.Lines.{nth_drop}
 use Rattle.protocol.specs.declared.step.Step.{Step}
-use Rattle.session.specs.Turns.{takes_part, first_of, next_of, IsNext, NoneLeft, Next}
+use Rattle.session.specs.Turns.{takes_part, first_of, next_of, IsNext, Next}
 
 -- what is found among steps of which the first has the number n
 First : List Step → ℕ → ℕ → Option (ℕ × Step) → Type 0

@@ -1,9 +1,8 @@
 -- Whether a session is ready.
-use Rattle.std.proofs.Common.{◌≡◌, ℕ, ◌<◌, ◌≤◌, Bool, true, false, cond, ◌&&◌, ltb, leb, ◌⊎◌, List, [], length, Some, None, Option, sym, refl, ap, ◌∙◌, inl, inr, arith, lt-ltb, le-leb}
+use Rattle.std.proofs.Common.{◌≡◌, ℕ, ◌<◌, ◌≤◌, Bool, true, false, cond, ◌&&◌, ltb, leb, ◌⊎◌, List, [], length, Some, None, sym, refl, ap, ◌∙◌, inl, inr, arith, lt-ltb, le-leb}
 use borrow.Author.Tests.{lt-leb}
 use Rattle.terms.specs.Listed.{listed}
 use Rattle.scripts.specs.declared.instruction.Line.{Line}
-use Rattle.acting.specs.declared.refusal.SessionRefusal.{SessionRefusal}
 use Rattle.acting.specs.declared.refusal.SessionRefusal.TheVariants.{NoParty, NoMemory}
 use Rattle.rules.specs.State.{nth}
 use Rattle.rules.proofs.Nth.{nth_below, nth_at, some_is}

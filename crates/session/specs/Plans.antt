@@ -5,7 +5,8 @@ use Rattle.terms.specs.Listed.{listed}
 use Rattle.scripts.specs.declared.instruction.Line.{Line}
 use Rattle.scripts.specs.declared.script.Script.{Script}
 use Rattle.scripts.specs.View.{written}
-use Rattle.parts.specs.Parts.{initial}
+use Rattle.rules.specs.State.{State}
+use Rattle.parts.specs.Parts.{initial, begin}
 use Rattle.acting.specs.declared.instruction.Part.TheVariants.{Start, Send, Receive}
 use Rattle.acting.specs.declared.refusal.SessionRefusal.{SessionRefusal}
 use Rattle.acting.specs.declared.refusal.SessionRefusal.TheVariants.{NoParty, NoMemory, NotItsTurn}
@@ -51,21 +52,21 @@ start_work p who Unstarted = Ok (record { start = 0; end = initial (view_of p) w
 start_work p who (From n) = Err NotItsTurn
 
 -- to send: the sender's part of the party's next step, if it sends in it
-abbrev pub send_part : ℕ → Option (ℕ × Step) → Result Work SessionRefusal
-send_part who None = Err NotItsTurn
-send_part who (Some x) =
-    cond (x.1.sender == who) (Ok (record { start = x.1.sent_from; end = x.1.sent; part = Send; next = x.0 + 1 })) (Err NotItsTurn)
+abbrev pub send_part : State → ℕ → Option (ℕ × Step) → Result Work SessionRefusal
+send_part st who None = Err NotItsTurn
+send_part st who (Some x) =
+    cond (x.1.sender == who) (Ok (record { start = begin st x.0 x.1.sender; end = x.1.sent; part = Send; next = x.0 + 1 })) (Err NotItsTurn)
 
 -- to send in a turn
 abbrev pub send_work : Protocol → ℕ → Turn → Result Work SessionRefusal
-send_work p who t = send_part who (next_step p.content who t)
+send_work p who t = send_part (view_of p) who (next_step p.content who t)
 
 -- to receive: the receiver's part of the party's next step, if it receives in it, with what is handed to it
-abbrev pub receive_part : ℕ → ℕ → ℕ → Option (ℕ × Step) → Result Work SessionRefusal
-receive_part who from message None = Err NotItsTurn
-receive_part who from message (Some x) =
-    cond (x.1.receiver == who) (Ok (record { start = x.1.received_from; end = x.1.received; part = Receive from message; next = x.0 + 1 })) (Err NotItsTurn)
+abbrev pub receive_part : State → ℕ → ℕ → ℕ → Option (ℕ × Step) → Result Work SessionRefusal
+receive_part st who from message None = Err NotItsTurn
+receive_part st who from message (Some x) =
+    cond (x.1.receiver == who) (Ok (record { start = begin st x.0 x.1.receiver; end = x.1.received; part = Receive from message; next = x.0 + 1 })) (Err NotItsTurn)
 
 -- to receive in a turn, with the handles of the sender's name and the message
 abbrev pub receive_work : ℕ → ℕ → Protocol → ℕ → Turn → Result Work SessionRefusal
-receive_work from message p who t = receive_part who from message (next_step p.content who t)
+receive_work from message p who t = receive_part (view_of p) who from message (next_step p.content who t)

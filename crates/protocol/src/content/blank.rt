@@ -11,9 +11,7 @@ const UNUSED: Step = Step {
     sender: 0,
     receiver: 0,
     message: 0,
-    sent_from: 0,
     sent: 0,
-    received_from: 0,
     received: 0,
     heard: 0,
 };

@@ -23,9 +23,7 @@ impl Content {
             sender,
             receiver,
             message,
-            sent_from: self.scripts[sender].len(),
             sent: scripts.sent.len(),
-            received_from: self.scripts[receiver].len(),
             received: scripts.received.len(),
             heard: scripts.heard.len(),
         }

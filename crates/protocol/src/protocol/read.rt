@@ -1,6 +1,6 @@
 // The blank protocol, and what reading one answers.
 ghost use Rattle.std.specs.Prelude.{◌≡◌, length};
-ghost use Rattle.parts.specs.Parts.{initial};
+ghost use Rattle.parts.specs.Parts.{begin, initial};
 ghost use Rattle.rules.specs.State.{blank, nth};
 ghost use Rattle.terms.specs.Listed.{listed};
 ghost use Rattle.protocol.specs.Reading.{AgentName, ShowsScript};
@@ -71,6 +71,13 @@ impl Protocol {
         ensures { result ≡ initial (view_of self.now) agent }
     {
         self.content.initial(agent)
+    }
+
+    // Where an agent's part of a step begins.
+    pub fn begin(&self, number: usize, agent: Agent) -> usize
+        ensures { result ≡ begin (view_of self.now) number agent }
+    {
+        self.content.begin(number, agent)
     }
 
     // The name of a party.

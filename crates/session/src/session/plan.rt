@@ -64,7 +64,7 @@ impl Session {
     {
         match self.next(protocol) {
             Some((number, step)) if step.sender == self.party => Ok(Work {
-                start: step.sent_from,
+                start: protocol.begin(number, step.sender),
                 end: step.sent,
                 part: Part::Send,
                 next: number + 1,
@@ -85,7 +85,7 @@ impl Session {
     {
         match self.next(protocol) {
             Some((number, step)) if step.receiver == self.party => Ok(Work {
-                start: step.received_from,
+                start: protocol.begin(number, step.receiver),
                 end: step.received,
                 part: Part::Receive { from, message },
                 next: number + 1,

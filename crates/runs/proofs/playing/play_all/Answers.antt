@@ -14,7 +14,7 @@ returns-in_err-started g c =
     let k = a.protocol.now.content in
     let q = err_from_is_err_and c.from_residual.result c.from_residual.ensures.1 in
     rw (q.1, q.2)
-    (tasks_stop p.algebra p.meaning (listed k.terms) (lines_of k) a.readings.now (start_tasks (view_of a.protocol.now) (length (lines_of k))) (step_tasks 0 (steps_of k))
+    (tasks_stop p.algebra p.meaning (listed k.terms) (lines_of k) a.readings.now (start_tasks (view_of a.protocol.now) (length (lines_of k))) (step_tasks (view_of a.protocol.now) 0 (steps_of k))
     a.provider.now a.slots.now c.in_err-started.field-0.0 c.start_parties.new.provider c.start_parties.new.slots c.in_err-started.ensures.whole)
 
 pub returns-in_err-played : goal.returns-in_err-played
@@ -24,7 +24,7 @@ returns-in_err-played g c =
     let k = a.protocol.now.content in
     let q = err_from_is_err_and c.from_residual-in_err-played.result c.from_residual-in_err-played.ensures.1 in
     rw (q.1, q.2)
-    (tasks_then p.algebra p.meaning (listed k.terms) (lines_of k) a.readings.now (start_tasks (view_of a.protocol.now) (length (lines_of k))) (step_tasks 0 (steps_of k))
+    (tasks_then p.algebra p.meaning (listed k.terms) (lines_of k) a.readings.now (start_tasks (view_of a.protocol.now) (length (lines_of k))) (step_tasks (view_of a.protocol.now) 0 (steps_of k))
     a.provider.now a.slots.now c.in_ok-started.started c.start_parties.new.provider c.start_parties.new.slots
     (Err c.in_err-played.field-0.0) c.play_steps.new.provider c.play_steps.new.slots c.in_ok-started.ensures.whole c.in_err-played.ensures.whole)
 
@@ -33,6 +33,6 @@ returns g c =
     let p = g.P.Provider in
     let a = c.args in
     let k = a.protocol.now.content in
-    tasks_then p.algebra p.meaning (listed k.terms) (lines_of k) a.readings.now (start_tasks (view_of a.protocol.now) (length (lines_of k))) (step_tasks 0 (steps_of k))
+    tasks_then p.algebra p.meaning (listed k.terms) (lines_of k) a.readings.now (start_tasks (view_of a.protocol.now) (length (lines_of k))) (step_tasks (view_of a.protocol.now) 0 (steps_of k))
     a.provider.now a.slots.now c.in_ok-started.started c.start_parties.new.provider c.start_parties.new.slots
     (Ok c.in_ok-played.played) c.play_steps.new.provider c.play_steps.new.slots c.in_ok-started.ensures.whole c.in_ok-played.ensures.whole

@@ -2,6 +2,7 @@ use Rattle.std.proofs.Common.{◌+◌, ◌≤◌, length, drop, refl, arith, rul
 use Rattle.std.proofs.lemmas.Result.{err_from_is_err_and}
 use Rattle.terms.specs.Listed.{listed}
 use Rattle.protocol.specs.View.{lines_of, steps_of}
+use Rattle.protocol.specs.Whole.{view_of}
 use Rattle.protocol.proofs.Holding.{sound}
 use Rattle.protocol.proofs.Reading.{steps_length}
 use Rattle.runs.specs.Tasks.{both_tasks, step_tasks}
@@ -12,18 +13,20 @@ pub loop-number-init : goal.loop-number-init
 loop-number-init g c =
     let p = g.P.Provider in
     let a = c.args in
+    let st = view_of a.protocol.now in
     let k = a.protocol.now.content in
-    (omega arith, rest_all p.algebra p.meaning (listed k.terms) (lines_of k) a.readings.now (step_tasks 0 (steps_of k)) (step_tasks 0 (steps_of k)) a.provider.now a.slots.now refl)
+    (omega arith, rest_all p.algebra p.meaning (listed k.terms) (lines_of k) a.readings.now (step_tasks st 0 (steps_of k)) (step_tasks st 0 (steps_of k)) a.provider.now a.slots.now refl)
 
 pub returns-in_default : goal.returns-in_default
 returns-in_default g c =
     let p = g.P.Provider in
     let a = c.args in
+    let st = view_of a.protocol.now in
     let k = a.protocol.now.content in
     let i = c.loop-number.number in
     record {
-      whole = rest_end p.algebra p.meaning (listed k.terms) (lines_of k) a.readings.now (step_tasks 0 (steps_of k)) a.provider.now a.slots.now (step_tasks i (drop i (steps_of k)))
-          c.loop-number.sames c.loop-number.provider c.loop-number.slots (steps_none (steps_of k) i c.step.result c.step.ensures c.in_default.is) c.loop-number.invariant.1;
+      whole = rest_end p.algebra p.meaning (listed k.terms) (lines_of k) a.readings.now (step_tasks st 0 (steps_of k)) a.provider.now a.slots.now (step_tasks st i (drop i (steps_of k)))
+          c.loop-number.sames c.loop-number.provider c.loop-number.slots (steps_none st (steps_of k) i c.step.result c.step.ensures c.in_default.is) c.loop-number.invariant.1;
       few = omega (arith, c.loop-number.invariant.0, c.loop-number-test.true, c.steps-number-end.ensures, steps_length k (sound a.protocol.now), a.protocol.now.steps_few);
     }
 
@@ -31,13 +34,14 @@ pub returns-in_err-sames : goal.returns-in_err-sames
 returns-in_err-sames g c =
     let p = g.P.Provider in
     let a = c.args in
+    let st = view_of a.protocol.now in
     let k = a.protocol.now.content in
     let i = c.loop-number.number in
     let x = c.in-Some.step in
     let q = err_from_is_err_and c.from_residual.result c.from_residual.ensures.1 in
     rw (q.1, q.2) (record {
-      whole = rest_stop p.algebra p.meaning (listed k.terms) (lines_of k) a.readings.now (step_tasks 0 (steps_of k)) a.provider.now a.slots.now (both_tasks i x) (step_tasks (i + 1) (drop (i + 1) (steps_of k))) (step_tasks i (drop i (steps_of k)))
-          c.loop-number.sames c.loop-number.provider c.loop-number.slots (steps_more (steps_of k) i x c.step.result c.step.ensures c.in-Some.is) c.loop-number.invariant.1
+      whole = rest_stop p.algebra p.meaning (listed k.terms) (lines_of k) a.readings.now (step_tasks st 0 (steps_of k)) a.provider.now a.slots.now (both_tasks st i x) (step_tasks st (i + 1) (drop (i + 1) (steps_of k))) (step_tasks st i (drop i (steps_of k)))
+          c.loop-number.sames c.loop-number.provider c.loop-number.slots (steps_more st (steps_of k) i x c.step.result c.step.ensures c.in-Some.is) c.loop-number.invariant.1
           c.in_err-sames.field-0.0 c.play_step.new.provider c.play_step.new.slots c.in_err-sames.ensures.whole;
       few = tt;
     })
@@ -53,12 +57,13 @@ pub loop-number-preserved : goal.loop-number-preserved
 loop-number-preserved g c =
     let p = g.P.Provider in
     let a = c.args in
+    let st = view_of a.protocol.now in
     let k = a.protocol.now.content in
     let i = c.loop-number.number in
     let x = c.in-Some.step in (
       omega (arith, c.loop-number.invariant.0, c.in_ok-sames.ensures.few),
-      rest_more p.algebra p.meaning (listed k.terms) (lines_of k) a.readings.now (step_tasks 0 (steps_of k)) a.provider.now a.slots.now (both_tasks i x) (step_tasks (i + 1) (drop (i + 1) (steps_of k))) (step_tasks i (drop i (steps_of k)))
-          c.loop-number.sames c.loop-number.provider c.loop-number.slots (steps_more (steps_of k) i x c.step.result c.step.ensures c.in-Some.is) c.loop-number.invariant.1
+      rest_more p.algebra p.meaning (listed k.terms) (lines_of k) a.readings.now (step_tasks st 0 (steps_of k)) a.provider.now a.slots.now (both_tasks st i x) (step_tasks st (i + 1) (drop (i + 1) (steps_of k))) (step_tasks st i (drop i (steps_of k)))
+          c.loop-number.sames c.loop-number.provider c.loop-number.slots (steps_more st (steps_of k) i x c.step.result c.step.ensures c.in-Some.is) c.loop-number.invariant.1
           c.in_ok-sames.field-0 c.play_step.new.provider c.play_step.new.slots c.in_ok-sames.ensures.whole,
     )
 
@@ -66,11 +71,12 @@ pub returns : goal.returns
 returns g c =
     let p = g.P.Provider in
     let a = c.args in
+    let st = view_of a.protocol.now in
     let k = a.protocol.now.content in
     let i = c.loop-number.number in
     let past : length (steps_of k) ≤ i = omega (arith, c.loop-number-test.false, c.steps-number-end.ensures) in
     record {
-      whole = rest_end p.algebra p.meaning (listed k.terms) (lines_of k) a.readings.now (step_tasks 0 (steps_of k)) a.provider.now a.slots.now (step_tasks i (drop i (steps_of k)))
-          c.loop-number.sames c.loop-number.provider c.loop-number.slots (steps_end (steps_of k) i past) c.loop-number.invariant.1;
+      whole = rest_end p.algebra p.meaning (listed k.terms) (lines_of k) a.readings.now (step_tasks st 0 (steps_of k)) a.provider.now a.slots.now (step_tasks st i (drop i (steps_of k)))
+          c.loop-number.sames c.loop-number.provider c.loop-number.slots (steps_end st (steps_of k) i past) c.loop-number.invariant.1;
       few = omega (arith, c.loop-number.invariant.0, c.loop-number.auto.number-end, c.steps-number-end.ensures, steps_length k (sound a.protocol.now), a.protocol.now.steps_few);
     }

@@ -1,6 +1,4 @@
-use Rattle.std.proofs.Common.{◌≡◌, ◌<◌, length, sym, ◌∙◌, arith}
-use Rattle.terms.specs.Listed.{listed}
-use Rattle.terms.specs.Tree.{tree}
+use Rattle.std.proofs.Common.{sym, ◌∙◌, arith}
 use Rattle.protocol.proofs.Addressing.{no_sender, no_receiver, no_message, same_agent, no_sender_name, no_receiver_name, no_room, no_address, slot_at}
 use Rattle.protocol.proofs.content.Content.address.Goals as goal
 

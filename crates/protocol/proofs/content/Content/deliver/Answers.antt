@@ -1,4 +1,4 @@
-use Rattle.std.proofs.Common.{sym, arith}
+use Rattle.std.proofs.Common.{arith}
 use Rattle.protocol.specs.View.{state_of}
 use Rattle.protocol.proofs.Asking.{agent_known}
 use Rattle.protocol.proofs.Delivering.{name_named, send_refused, receive_refused, hear_refused, all_granted}
@@ -16,7 +16,7 @@ returns-in_default c =
     let w = c.requires.addressed in
     let x = c.index-self-receiver.result in
     receive_refused p s c.args.sender c.args.receiver c.args.message c.args.delivery w c.in-Ok.script c.in-Ok.ensures x c.in_default.field-0
-    (c.in_default.ensures w.from_below w.message_below (name_named (state_of p) c.args.sender _ w.from-is) (agent_known p s c.args.receiver x w.receiver_below))
+    (c.in_default.ensures w.from_below w.message_below (name_named (state_of p) c.args.sender _ w.from_is) (agent_known p s c.args.receiver x w.receiver_below))
 
 pub returns-in-Ok-overhear : goal.returns-in-Ok-overhear
 returns-in-Ok-overhear c =
@@ -26,8 +26,8 @@ returns-in-Ok-overhear c =
     let x = c.index-self-receiver.result in
     let z = c.index-self-0.result in
     all_granted p s c.args.sender c.args.receiver c.args.message c.args.delivery w c.in-Ok.script c.in-Ok.ensures x c.in-Ok-receive.received
-    (c.in-Ok-receive.ensures w.from_below w.message_below (name_named (state_of p) c.args.sender _ w.from-is) (agent_known p s c.args.receiver x w.receiver_below))
-    z c.in-Ok-overhear.heard (c.in-Ok-overhear.ensures w.from_below w.to-below w.message_below (agent_known p s 0 z (omega (arith, w.sender_below))))
+    (c.in-Ok-receive.ensures w.from_below w.message_below (name_named (state_of p) c.args.sender _ w.from_is) (agent_known p s c.args.receiver x w.receiver_below))
+    z c.in-Ok-overhear.heard (c.in-Ok-overhear.ensures w.from_below w.to_below w.message_below (agent_known p s 0 z (omega (arith, w.sender_below))))
 
 pub returns-in-Err-overhear : goal.returns-in-Err-overhear
 returns-in-Err-overhear c =
@@ -37,5 +37,5 @@ returns-in-Err-overhear c =
     let x = c.index-self-receiver.result in
     let z = c.index-self-0.result in
     hear_refused p s c.args.sender c.args.receiver c.args.message c.args.delivery w c.in-Ok.script c.in-Ok.ensures x c.in-Ok-receive.received
-    (c.in-Ok-receive.ensures w.from_below w.message_below (name_named (state_of p) c.args.sender _ w.from-is) (agent_known p s c.args.receiver x w.receiver_below))
-    z c.in-Err-overhear.field-0 (c.in-Err-overhear.ensures w.from_below w.to-below w.message_below (agent_known p s 0 z (omega (arith, w.sender_below))))
+    (c.in-Ok-receive.ensures w.from_below w.message_below (name_named (state_of p) c.args.sender _ w.from_is) (agent_known p s c.args.receiver x w.receiver_below))
+    z c.in-Err-overhear.field-0 (c.in-Err-overhear.ensures w.from_below w.to_below w.message_below (agent_known p s 0 z (omega (arith, w.sender_below))))

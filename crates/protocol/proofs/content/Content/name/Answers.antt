@@ -1,3 +1,6 @@
+use denote.Enum.Bare.{same_true, same_false}
+use Rattle.std.proofs.Common.{sym, ◌∙◌}
+use Rattle.terms.specs.contracts.node.Kind.{the_type}
 use Rattle.std.proofs.lemmas.Result.{err_from_is_err_and}
 use Rattle.protocol.proofs.Naming.{name_new, refused_name, room_for, named_performed, named_sound, added_name, opened_agent, same_unaltered}
 use Rattle.protocol.proofs.content.Content.name.Goals as goal
@@ -28,7 +31,7 @@ returns-then-eq c =
     let k = c.in-Some.kind in
     let w = c.in_ok-name.ensures in
     let did =
-    opened_agent self k c.in_ok-name.name c.add_name.new.terms _ c.open_agent.new.self c.if-eq.ensures w.0 w.1
+    opened_agent self k c.in_ok-name.name c.add_name.new.terms _ c.open_agent.new.self (same_true the_type tt _ _ (sym c.eq.ensures ∙ c.if-eq.true)) w.0 w.1
     c.party_script.ensures c.open_agent.ensures in
     let room = c.in_ok-admits.ensures in
     record {
@@ -42,7 +45,7 @@ returns-else-eq c =
     let self = c.args.self.now in
     let k = c.in-Some.kind in
     let w = c.in_ok-name.ensures in
-    let did = added_name self k c.in_ok-name.name c.add_name.new.terms c.if-eq.ensures w.0 w.1 in
+    let did = added_name self k c.in_ok-name.name c.add_name.new.terms (same_false the_type _ _ (sym c.eq.ensures ∙ c.if-eq.false)) w.0 w.1 in
     let room = c.in_ok-admits.ensures in
     record {
       sound = named_sound self c.requires c.args.kind k c.in-Some.ensures c.in_ok-name.name _ room did;

@@ -1,9 +1,9 @@
-use Rattle.std.proofs.Common.{◌≡◌, suc, ◌-◌, ◌<◌, length, sym, ◌∙◌, subst, arith}
+use Rattle.std.proofs.Common.{◌≡◌, suc, ◌<◌, length, sym, subst, arith}
 use Rattle.terms.specs.Listed.{listed}
 use Rattle.terms.proofs.Listed.{orderly}
 use Rattle.protocol.proofs.Parties.{LeftFrom, left_start, left_more, left_less, left_here, left_none}
 use Rattle.protocol.proofs.content.names.nth_party.Goals as goal
-use Rattle.protocol.proofs.content.names.nth_party.Goals.{then-is-party+else-left-eq0, else-is-party}
+use Rattle.protocol.proofs.content.names.nth_party.Goals.{then-is_party+else-left-eq0, else-is_party}
 
 pub loop-id-init : goal.loop-id-init
 loop-id-init c = left_start (listed c.args.terms.now) c.args.before
@@ -19,10 +19,10 @@ loop-id-preserved c =
     let ts = c.args.terms.now in
     let l : c.loop-id.id < length (listed ts) = omega (arith, c.loop-id-test.true, c.len-id-end.ensures.is) in
     elim c.if-is_party.branch [
-      | then-is-party+else-left-eq0 w ↦
+      | then-is_party+else-left-eq0 w ↦
           let q : c.loop-id.left ≡ suc c.if-is_party.left = omega (arith, w.left-is, w.if-left-eq0.false) in
           left_less (listed ts) (orderly ts) c.args.before c.loop-id.id c.loop-id.left l c.loop-id.invariant c.get.result c.get.ensures.reads w.if-is_party.ensures c.if-is_party.left q
-      | else-is-party w ↦
+      | else-is_party w ↦
           subst (LeftFrom (listed ts) c.args.before _) (sym w.left-is)
           (left_more (listed ts) (orderly ts) c.args.before c.loop-id.id c.loop-id.left l c.loop-id.invariant c.get.result c.get.ensures.reads w.if-is_party.ensures)
     ]

@@ -8,7 +8,14 @@ know-requires c = sound c.args.self.now
 pub invariant_of-self : goal.invariant_of-self
 invariant_of-self c =
     let s = c.know.ensures.sound in
-    (s.agents_few, (s.steps_few, (s.scripts_size, (s.steps_size, (s.known, (s.came, tt))))))
+    record {
+      agents_few = s.agents_few;
+      steps_few = s.steps_few;
+      scripts_size = s.scripts_size;
+      steps_size = s.steps_size;
+      known = s.known;
+      came = s.came;
+    }
 
 pub returns : goal.returns
 returns c = record { performed = c.know.ensures.performed; unaltered = unaltered_by c.know.result c.args.self.now _ c.know.ensures.unaltered }

@@ -10,7 +10,14 @@ step-requires c = sound c.args.self.now
 pub invariant_of-self : goal.invariant_of-self
 invariant_of-self c =
     let s = c.step.ensures.sound in
-    (s.agents_few, (s.steps_few, (s.scripts_size, (s.steps_size, (s.known, (s.came, tt))))))
+    record {
+      agents_few = s.agents_few;
+      steps_few = s.steps_few;
+      scripts_size = s.scripts_size;
+      steps_size = s.steps_size;
+      known = s.known;
+      came = s.came;
+    }
 
 pub returns : goal.returns
 returns c = record {

@@ -1,4 +1,4 @@
-use Rattle.std.proofs.Common.{◌≡◌, arith}
+use Rattle.std.proofs.Common.{arith}
 use Rattle.protocol.proofs.Holding.{sound}
 use Rattle.protocol.proofs.Reading.{agents_length, script_at}
 use Rattle.protocol.proofs.protocol.Protocol.script.Goals as goal

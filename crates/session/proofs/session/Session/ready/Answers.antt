@@ -1,4 +1,4 @@
-use Rattle.std.proofs.Common.{◌≡◌, ◌<◌, length, ap, ◌∙◌, inl, inr, arith}
+use Rattle.std.proofs.Common.{length, ap, ◌∙◌, inl, inr, arith}
 use Rattle.terms.specs.Listed.{listed}
 use Rattle.scripts.specs.View.{written}
 use Rattle.session.proofs.Readiness.{no_memory, ready}
