@@ -35,7 +35,7 @@ pub const TERM_NAMES: [&str; 17] = [
     "session key for the station",
     "nonce and session key",
     "session key for the unit",
-    "both session keys",
+    "two sealed keys",
     "sealed plan",
     "ticket and sealed plan",
 ];
