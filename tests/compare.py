@@ -3,8 +3,8 @@
 
     python3 tests/compare.py PROGRAM [LISTS]
 
-PROGRAM is the console as it was proved and linked: `rt check console` and
-`rt ci` leave it at target/bin/console. LISTS is how many lists of calls are
+PROGRAM is the console as it was proved and linked: `rt run` in crates/console
+leaves it at crates/console/out/console. LISTS is how many lists of calls are
 tried, 3,200 if it is not said.
 
 Each list begins with `provider bytes` and comes of a seed of its own. Many

@@ -3,8 +3,8 @@
 
     python3 tests/compare_symbolic.py PROGRAM [LISTS]
 
-PROGRAM is the console as it was proved and linked: `rt check console` and
-`rt ci` leave it at target/bin/console. LISTS is how many lists of calls are
+PROGRAM is the console as it was proved and linked: `rt run` in crates/console
+leaves it at crates/console/out/console. LISTS is how many lists of calls are
 tried, 3,000 if it is not said.
 
 Each list comes of a seed of its own and chooses a new symbolic provider; some
