@@ -4,10 +4,10 @@ use Rattle.provider.specs.Meaning.{Same as SameValue, stands}
 use Rattle.provider.specs.declared.Making.{Making}
 use Rattle.terms.specs.declared.node.TermNode.{TermNode}
 use Rattle.byte_provider.specs.Outcome.{Blank}
-use Rattle.byte_provider.specs.State.{fits_of as bytes_fit, issued_of as issued-bytes, meaning_of as meaning-of-bytes}
+use Rattle.byte_provider.specs.State.{fits_of as bytes_fit, issued_of as bytes_issued, meaning_of as bytes_meaning}
 use Rattle.byte_provider.specs.Values.{byte_algebra}
 use Rattle.symbolic_provider.specs.Records.{Recorded}
-use Rattle.symbolic_provider.specs.State.{fits_of as Term-fits, issued_of as issued-terms, meaning_of as meaning-of-terms}
+use Rattle.symbolic_provider.specs.State.{fits_of as terms_fit, issued_of as terms_issued, meaning_of as terms_meaning}
 use Rattle.symbolic_provider.specs.Values.{term_algebra}
 use Rattle.console.specs.declared.answer.Answer.{Answer}
 use Rattle.console.specs.declared.answer.Answer.TheVariants.{Done, Wrong, Unread, Bytes as ShownBytes, Term}
@@ -29,24 +29,24 @@ pub record ChoseBytes (s : Console) (a : Answer) (t : Console) : Type 0 where
 pub record ChoseSymbolic (s : Console) (a : Answer) (t : Console) : Type 0 where
   pub done : a ≡ Done
   pub chosen : t.chosen ≡ Symbolic
-  pub blank : issued-terms t.symbolic ≡ []
+  pub blank : terms_issued t.symbolic ≡ []
   pub bytes : t.bytes ≡ s.bytes
 
 -- Before a provider is chosen, a call that needs one is unread. A making alters nothing but the provider that is chosen.
 abbrev pub MadeBy : Chosen → Console → Making → Answer → Console → Type 0
 MadeBy Nothing s m a t = (a ≡ Unread) × (t ≡ s)
-MadeBy Bytes s m a t = Made byte_algebra meaning-of-bytes s.bytes m a t.bytes × (t.symbolic ≡ s.symbolic) × (t.chosen ≡ Bytes) × (t.shown ≡ s.shown)
-MadeBy Symbolic s m a t = Made term_algebra meaning-of-terms s.symbolic m a t.symbolic × (t.bytes ≡ s.bytes) × (t.chosen ≡ Symbolic) × (t.shown ≡ s.shown)
+MadeBy Bytes s m a t = Made byte_algebra bytes_meaning s.bytes m a t.bytes × (t.symbolic ≡ s.symbolic) × (t.chosen ≡ Bytes) × (t.shown ≡ s.shown)
+MadeBy Symbolic s m a t = Made term_algebra terms_meaning s.symbolic m a t.symbolic × (t.bytes ≡ s.bytes) × (t.chosen ≡ Symbolic) × (t.shown ≡ s.shown)
 
 abbrev pub FitsBy : Chosen → Console → Making → Answer → Type 0
 FitsBy Nothing s m a = a ≡ Unread
 FitsBy Bytes s m a = a ≡ yes_no (bytes_fit s.bytes m)
-FitsBy Symbolic s m a = a ≡ yes_no (Term-fits s.symbolic m)
+FitsBy Symbolic s m a = a ≡ yes_no (terms_fit s.symbolic m)
 
 abbrev pub SameBy : Chosen → Console → ℕ → ℕ → Answer → Type 0
 SameBy Nothing s x y a = a ≡ Unread
-SameBy Bytes s x y a = (b : Bool) × SameValue (issued-bytes s.bytes) x y b × (a ≡ yes_no b)
-SameBy Symbolic s x y a = (b : Bool) × SameValue (issued-terms s.symbolic) x y b × (a ≡ yes_no b)
+SameBy Bytes s x y a = (b : Bool) × SameValue (bytes_issued s.bytes) x y b × (a ≡ yes_no b)
+SameBy Symbolic s x y a = (b : Bool) × SameValue (terms_issued s.symbolic) x y b × (a ≡ yes_no b)
 
 -- both providers, and which one is chosen, are as they were
 pub record Kept (s t : Console) : Type 0 where
@@ -60,7 +60,7 @@ Shown None a shown = a ≡ Wrong
 Shown (Some v) a shown = (a ≡ ShownBytes (length v)) × (take (length v) shown ≡ v)
 
 abbrev pub BytesShown : Console → ℕ → Answer → Console → Type 0
-BytesShown s h a t = Shown (stands (issued-bytes s.bytes) h) a t.shown × Kept s t
+BytesShown s h a t = Shown (stands (bytes_issued s.bytes) h) a t.shown × Kept s t
 
 abbrev pub told : Option TermNode → Answer
 told None = Wrong
@@ -69,7 +69,7 @@ told (Some r) = Term r
 -- the term of an issued handle is told by its record
 pub record TermShown (s : Console) (h : ℕ) (a : Answer) : Type 0 where
   pub node : Option TermNode
-  pub recorded : Recorded (issued-terms s.symbolic) h node
+  pub recorded : Recorded (terms_issued s.symbolic) h node
   pub tells : a ≡ told node
 
 abbrev pub ShownBy : Chosen → Console → ℕ → Answer → Console → Type 0

@@ -91,7 +91,7 @@ module _ (G : Term → Type 0) where
       step (looking_up d e n m) (inl o) = d o
       step (looking_up d e n m) (inr o) = e o
 
-  -- the seven ways keep terms well_formed
+  -- the seven ways keep terms well-formed
   pub derives_formed : ((t : Term) → G t → Formed t) → (t : Term) → DerivesFrom G t → Formed t
   derives_formed formed = derives_ind G Formed formed (λ t w. step w)
     where

@@ -3,7 +3,7 @@ use Rattle.std.specs.Prelude.{◌≡◌, ℕ, ◌⊎◌, List, [], ◌∷◌}
 use Rattle.deduction.specs.Term.{Kind, party, public, table, function, pair, sealed, digest, entry, Term, name, built, mate, Key, opener, Named, Occurs, among}
 
 -- the term comes in one of the seven ways from terms of which E holds. The ways that build ask for parts that fit, so the ways
--- keep terms well_formed: from well_formed givens every member of a derivation is well_formed, and nothing more has to be asked
+-- keep terms well-formed: from well-formed givens every member of a derivation is well-formed, and nothing more has to be asked
 pub data Way (E : Term → Type 0) : Term → Type 0 where
   left_half : {a b : Term} → E (built pair a b) → Way E a
   right_half : {a b : Term} → E (built pair a b) → Way E b

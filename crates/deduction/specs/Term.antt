@@ -1,4 +1,4 @@
--- Terms as trees, keys and their openers, well_formed terms, and the names that occur in a term.
+-- Terms as trees, keys and their openers, well-formed terms, and the names that occur in a term.
 use Rattle.std.specs.Prelude.{◌≡◌, ℕ, ◌⊎◌, List, [], ◌∷◌}
 use Rattle.std.proofs.Math.Decide.{ℕ_discrete}
 
@@ -83,7 +83,7 @@ Asymmetric (name k i) = k ≡ public
 Asymmetric (built f a b) = KeyForm f
 Asymmetric (mate k) = ⊥
 
--- well_formed: every form has parts that fit, and every mate is of a public key or an entry
+-- well-formed: every form has parts that fit, and every mate is of a public key or an entry
 abbrev pub Formed : Term → Type 0
 Formed (name k i) = Unit {0}
 Formed (built f a b) = Formed a × Formed b × PartsFit f a b

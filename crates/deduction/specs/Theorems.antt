@@ -43,7 +43,7 @@ NamesComeFromGivens =
     (givens : List Term) (t : Term) → Derives givens t
     → (k : Kind) (i : ℕ) → Occurs k i t → (g : Term) × In g givens × Occurs k i g
 
--- from well_formed givens only well_formed terms are derivable
+-- from well-formed givens only well-formed terms are derivable
 abbrev pub DerivableIsFormed : Type 0
 DerivableIsFormed = (givens : List Term) → ((g : Term) → In g givens → Formed g) → (t : Term) → Derives givens t → Formed t
 

@@ -37,7 +37,7 @@ pub fn names_come_from_givens()
     ensures { NamesComeFromGivens }
 {}
 
-// From well_formed givens only well_formed terms are derivable.
+// From well-formed givens only well-formed terms are derivable.
 pub fn derivable_is_formed()
     ensures { DerivableIsFormed }
 {}

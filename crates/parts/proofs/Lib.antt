@@ -6,6 +6,7 @@ pub mod Granted
 pub mod Reached
 pub mod Pieces
 pub mod Played
+pub mod Following
 pub mod Law
 pub mod Example
 pub mod Sames

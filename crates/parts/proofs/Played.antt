@@ -132,7 +132,7 @@ module _ (st : State) (v : Played st) where
     after_name = record { terms = st.terms ++ new_terms k (length st.terms); scripts = st.scripts ++ new_scripts k (length st.terms); steps = st.steps }
 
     -- the parties that were there
-    name_initial : (p : ℕ) (s : Script) → 1 ≤ p → nth st.scripts p ≡ Some s → initial after_name p ≡ initial st p
+    pub name_initial : (p : ℕ) (s : Script) → 1 ≤ p → nth st.scripts p ≡ Some s → initial after_name p ≡ initial st p
     name_initial p s h e =
         ap opening (get_or_append_left st.scripts named_scripts [] p (nth_below st.scripts p s e))
 
@@ -216,7 +216,7 @@ module _ (st : State) (v : Played st) where
         → opening s' ≡ opening s → initial (state_after g) p ≡ initial st p
     step_opening p s s' e f o = ap opening (read_at after.scripts p s' [] f) ∙ (o ∙ ap opening (sym (read_at st.scripts p s [] e)))
 
-    step_initial : (p : ℕ) → 1 ≤ p → initial (state_after g) p ≡ initial st p
+    pub step_initial : (p : ℕ) → 1 ≤ p → initial (state_after g) p ≡ initial st p
     step_initial p h = go (cases_eq a p) (cases_eq b p)
       where
         go : (a ≡ p) ⊎ (a ≡ p → ⊥) → (b ≡ p) ⊎ (b ≡ p → ⊥) → initial (state_after g) p ≡ initial st p
@@ -272,7 +272,7 @@ module _ (st : State) (v : Played st) where
         last (inr w) = middle (nth_set x1 b (receiver_after g) p s w.1)
 
     -- a part of the step follows what its party had done
-    next : (p : ℕ) (s : Script) → 1 ≤ p → nth st.scripts p ≡ Some s → length s ≡ reached st.steps (initial after p) p
+    pub next : (p : ℕ) (s : Script) → 1 ≤ p → nth st.scripts p ≡ Some s → length s ≡ reached st.steps (initial after p) p
     next p s h e = sym (v.parties p s h e).all ∙ ap (λ m. reached st.steps m p) (sym (step_initial p h))
 
     new_step : StepPlayed after st.steps (step_of g)

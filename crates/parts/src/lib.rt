@@ -6,7 +6,7 @@
 
 #![tactic(auto)]
 
-ghost use Rattle.parts.specs.Law.{StatesWithinLimits, StepsWrote, StepsAreGranted};
+ghost use Rattle.parts.specs.Law.{StatesWithinLimits, StepsWrote, StepsAreGranted, PartsFollow};
 ghost use Rattle.parts.specs.Example.{ExampleParts};
 
 // A state has at most 512 terms, 8 scripts of at most 512 instructions each, and 64 steps.
@@ -23,6 +23,11 @@ pub fn steps_are_those_granted()
 // with the initial parts these are all that is written.
 pub fn steps_wrote_their_parts()
     ensures { StepsWrote }
+{}
+
+// A granted step's parts begin where the scripts of its sender and its receiver ended when it was granted, for good.
+pub fn parts_follow_what_was_written()
+    ensures { PartsFollow }
 {}
 
 // One party sends another its own name with a fresh number: where the parts begin and end, and the one comparison.

@@ -7,7 +7,7 @@ use Rattle.rules.specs.State.{State, nth, party_names, name_at, used}
 use Rattle.rules.specs.History.{History, Came, Stands, parties, NameOf, Used, FreshKind, Given}
 use Rattle.rules.specs.Grows.{Closed, Written}
 
--- the terms are those that the numbers stand for; they are well_formed and apart, and have their parts and the mates of public keys;
+-- the terms are those that the numbers stand for; they are well-formed and apart, and have their parts and the mates of public keys;
 -- a name's identity is its number; and the parties' names are those of the agents
 pub record Numbered (past : History) (ts : List Term) : Type 0 where
   pub stands_to : (n : ℕ) (t : Term) → Stands past n t → nth ts n ≡ Some t

@@ -55,7 +55,7 @@ pub record Misses (s : Script) (t : Term) : Type 0 where
 abbrev pub MissingMisses : Type 0
 MissingMisses = (s : Script) (t : Term) → Misses s t
 
--- all well_formed
+-- all well-formed
 abbrev pub AllFormed : List Term → Type 0
 AllFormed ts = (t : Term) → In t ts → Formed t
 

@@ -103,7 +103,7 @@ pub fn missing_term_cannot_be_built()
     ensures { MissingIsNamed }
 {}
 
-// After every list of calls: terms are well_formed, apart and closed under parts, a name's identity is its number, there is one script
+// After every list of calls: terms are well-formed, apart and closed under parts, a name's identity is its number, there is one script
 // for the listener and one for each party, and the test whether a name is used decides it.
 pub fn every_state_is_stable()
     ensures { StatesAreStable }

@@ -13,14 +13,14 @@ use Rattle.symbolic_provider.specs.State.{nodes_of, meaning_of}
 use Rattle.symbolic_provider.specs.Values.{term_algebra, when, mate_if}
 use Rattle.symbolic_provider.specs.Issued.{below}
 
--- every handle stands for a well_formed term
+-- every handle stands for a well-formed term
 pub holds : (s : SymbolicProvider) → Holds Formed (meaning_of s)
 holds s h t e =
     let p = below (nodes_of s) (length (nodes_of s)) h t e in
     let f : Formed _ = formed (nodes_of s) (orderly s.terms) h p.0 in
     rw p.1 at f
 
--- a key's mate is a well_formed key, whose mate is the key
+-- a key's mate is a well-formed key, whose mate is the key
 record Mated (k : Term) : Type 0 where
   well : Formed (mate_of k)
   key : is_key (mate_of k) ≡ true
@@ -54,7 +54,7 @@ some_when : (b : Bool) (x m : Term) → when b x ≡ Some m → (b ≡ true) × 
 some_when true x m e = (refl, cc)
 some_when false x m e = no_key (ap is_some e)
 
--- the keys of a provider are well_formed keys here
+-- the keys of a provider are well-formed keys here
 key_value : (k : Term) → KeyValue Formed term_algebra k → Formed k × (is_key k ≡ true)
 key_value k (of-shared i h) = (tt, refl)
 key_value k (of-public i h) = (tt, refl)

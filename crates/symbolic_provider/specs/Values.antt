@@ -1,4 +1,4 @@
--- The values of the symbolic provider, well_formed terms, and what the makings make of them.
+-- The values of the symbolic provider, well-formed terms, and what the makings make of them.
 use Rattle.std.specs.Prelude.{ℕ, Bool, cond, [], ◌∷◌, Some, None, Option, slice_index_or}
 use Rattle.deduction.specs.Term.{Kind, party, number, shared, public, table, function, Form, pair, sealed, digest, entry, Term, name, built, mate, mate_of, opener}
 use Rattle.deduction.specs.Decide.{same_term, is_key, parts_fit}

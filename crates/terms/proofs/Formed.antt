@@ -110,7 +110,7 @@ module _ (ts : List TermNode) (ok : Orderly ts) where
       (subst (λ t. Decides (parts_fit g (node_at ts a) (node_at ts b)) (PartsFit (form_of g) (tree_of (node_at ts a) (tree ts)) t)) (sym (tree_is ts ok.lower b lb))
       (fit_decides (tree ts) g (node_at ts a) (node_at ts b)))
 
-  -- a record with well_formed parts of the right kinds is well_formed
+  -- a record with well-formed parts of the right kinds is well-formed
   formed_node : (i : ℕ) (r : TermNode) → i ≤ length ts → PartsBelow i r → fits ts r ≡ true
       → ((j : ℕ) → j < i → Formed (tree ts j)) → Formed (tree_of r (tree ts))
   formed_node i (Name k n) l low e below = tt
@@ -128,6 +128,6 @@ module _ (ts : List TermNode) (ok : Orderly ts) where
       subst Formed (sym (tree_is ts ok.lower i l))
       (formed_node i (node_at ts i) (omega arith) (ok.lower i l) (ok.fitting i l) (λ j m. formed_to n j (omega arith) (omega arith)))
 
-  -- every number stands for a well_formed term
+  -- every number stands for a well-formed term
   pub formed : (i : ℕ) → i < length ts → Formed (tree ts i)
   formed i l = formed_to (suc i) i (omega arith) l

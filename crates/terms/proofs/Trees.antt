@@ -1,4 +1,4 @@
--- The trees of numbers: their equations, that numbers are apart, that trees are well_formed.
+-- The trees of numbers: their equations, that numbers are apart, that trees are well-formed.
 use Rattle.std.proofs.Common.{◌≡◌, ℕ, zero, suc, ◌+◌, ◌<◌, ◌≤◌, ◌⊎◌, List, length, sym, refl, ap, ◌∙◌, subst, ap₂, inl, inr, not-suc-le-zero, arith}
 use Rattle.std.proofs.lemmas.Bool.{cases_order}
 use Rattle.deduction.specs.Term.{Kind as TreeKind, party, number, shared, public, table, function}

@@ -204,7 +204,7 @@ terms_settled past st w = (came_sound past st w).settled
 pub scripts_fit : ScriptsFit
 scripts_fit past st w p s e = (came_sound past st w).fit s (nth_in st.scripts p s e)
 
--- settled terms are well_formed, so they have values
+-- settled terms are well-formed, so they have values
 pub terms_have_values : {X : Type 0} {P : X → Type 0} {f : Algebra X} → Lawful P f → TermsHaveValues f
 terms_have_values law past st w t i =
     let h = (came_sound past st w).settled in

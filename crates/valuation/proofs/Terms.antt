@@ -46,7 +46,7 @@ names_settled public ts h l = public_settled ts (length ts) h (omega arith)
 names_settled table ts h l = one_settled ts (name table (length ts)) h (omega arith, λ e. let z : ◌≡◌ {A = ℕ} 0 1 = cc in absurd (omega arith))
 names_settled function ts h l = one_settled ts (name function (length ts)) h (omega arith, λ e. let z : ◌≡◌ {A = ℕ} 0 1 = cc in absurd (omega arith))
 
--- settled terms are well_formed
+-- settled terms are well-formed
 pub settled_formed : (ts : List Term) → Settled ts → (t : Term) → In t ts → Formed t
 settled_formed ts h (name k i) x = tt
 settled_formed ts h (built f a b) x = let w = h (built f a b) x in (settled_formed ts h a w.0, settled_formed ts h b w.1, w.2)

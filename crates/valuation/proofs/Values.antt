@@ -1,4 +1,4 @@
--- The values of terms: a well_formed term has one, and the value of a key's mate is the mate of the key's value.
+-- The values of terms: a well-formed term has one, and the value of a key's mate is the mate of the key's value.
 use Rattle.std.proofs.Common.{◌≡◌, ℕ, ◌≤◌, Bool, true, false, cond, leb, Some, None, Option, sym, refl, ap, ◌∙◌, subst, ap₂, inl, inr}
 use Rattle.std.proofs.lemmas.Bool.{leb-true, le-leb}
 use Rattle.deduction.specs.Term.{Kind, party, number, shared, public, table, function, Form, pair, sealed, digest, entry, Term, name, built, mate, KeyKind, Key, mate_of_name, mate_of, Named, PartsFit, Asymmetric, Formed, Occurs}

@@ -34,7 +34,7 @@ pub record Lawful {X : Type 0} (P : X → Type 0) (f : Algebra X) : Type 0 where
   pub seals : Seals P f
   pub builds : Builds P f
 
--- a well_formed term whose names have ids up to 65,535 has a value, and the value of a key has a mate
+-- a well-formed term whose names have ids up to 65,535 has a value, and the value of a key has a mate
 abbrev pub FormedHasValue : {X : Type 0} → Algebra X → Type 0
 FormedHasValue {X} f =
     (t : Term) → Formed t → ((k : Kind) (i : ℕ) → Occurs k i t → i ≤ last_id)

@@ -1,7 +1,7 @@
 // What terms and scripts stand for on a provider: the value of a term, the term of each slot of a script, and the scripts whose
 // instructions find what they ask for.
-// The crate promises, on every provider: a well_formed term has a value, and the instructions of a fitting script make the
-// values of their slots' terms. And of every protocol: its terms are well_formed and its scripts fit. Nothing here computes:
+// The crate promises, on every provider: a well-formed term has a value, and the instructions of a fitting script make the
+// values of their slots' terms. And of every protocol: its terms are well-formed and its scripts fit. Nothing here computes:
 // each function carries one theorem in its contract.
 
 #![tactic(auto)]
@@ -10,7 +10,7 @@ ghost use Rattle.valuation.specs.Law.{FormedHasValue, SlotValues, TermsHaveValue
 
 use provider::Provider;
 
-// A well_formed term has a value on every provider, and a key's value has a mate.
+// A well-formed term has a value on every provider, and a key's value has a mate.
 pub fn well_formed_terms_have_values<P: Provider>(_provider: &P)
     ensures { FormedHasValue P.algebra }
 {}
@@ -25,7 +25,7 @@ pub fn every_term_has_a_value<P: Provider>(_provider: &P)
     ensures { TermsHaveValues P.algebra }
 {}
 
-// The terms of every protocol are settled: well_formed, and their parts among them.
+// The terms of every protocol are settled: well-formed, and their parts among them.
 pub fn every_term_is_settled()
     ensures { TermsSettled }
 {}
