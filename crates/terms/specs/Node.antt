@@ -1,5 +1,5 @@
 -- The records of numbered terms, and what the table keeps true of them.
-use Rattle.std.specs.Prelude.{◌≡◌, ℕ, ◌+◌, ◌<◌, ◌≤◌, Bool, true, false, ◌&&◌, List, length, ◌==◌, ◌≢◌, slice_index_or}
+use Rattle.std.specs.Prelude.{◌≡◌, ℕ, ◌+◌, ◌<◌, ◌≤◌, Bool, true, false, ◌&&◌, List, length, Some, None, Option, Result, MatchResult, ◌==◌, ◌≢◌, slice_index_or}
 use Rattle.terms.specs.declared.node.Kind.{Kind}
 use Rattle.terms.specs.declared.node.Kind.TheVariants.{Party, Number, Shared, Public, Table, Function}
 use Rattle.terms.specs.declared.node.Form.{Form}
@@ -7,7 +7,9 @@ use Rattle.terms.specs.declared.node.Form.TheVariants.{Pair, Sealed, Digest, Ent
 use Rattle.terms.specs.declared.node.TermNode.{TermNode}
 use Rattle.terms.specs.declared.node.TermNode.TheVariants.{Name, Built, Mate}
 use Rattle.terms.specs.declared.node.MateCase.{MateCase}
-use Rattle.terms.specs.declared.node.MateCase.TheVariants.{NoKey, Itself, Inside, Apart}
+use Rattle.terms.specs.declared.node.MateCase.TheVariants.{Itself, Inside, Apart}
+use Rattle.terms.specs.declared.node.UnknownKind.{UnknownKind}
+use Rattle.terms.specs.declared.node.UnknownForm.{UnknownForm}
 
 -- the record of a number; past the end what an unused place holds
 abbrev pub node_at : List TermNode → ℕ → TermNode
@@ -37,6 +39,21 @@ kind_number Shared = 2
 kind_number Public = 3
 kind_number Table = 4
 kind_number Function = 5
+
+-- the kind with the number, or an error with a number that no kind has
+abbrev pub KindAt : ℕ → Result Kind UnknownKind → Type 0
+KindAt n r = MatchResult r (λ k. kind_number k ≡ n) (λ e. (e.0 ≡ n) × (5 < n))
+
+-- a form's number
+abbrev pub form_number : Form → ℕ
+form_number Pair = 0
+form_number Sealed = 1
+form_number Digest = 2
+form_number Entry = 3
+
+-- the form with the number, or an error with a number that no form has
+abbrev pub FormAt : ℕ → Result Form UnknownForm → Type 0
+FormAt n r = MatchResult r (λ f. form_number f ≡ n) (λ e. (e.0 ≡ n) × (3 < n))
 
 -- names of these kinds are keys
 abbrev pub is_key_kind : Kind → Bool
@@ -73,26 +90,27 @@ is_asymmetric (Built f a b) = is_key_form f
 is_asymmetric (Mate a) = false
 
 -- what the mate of a name is
-abbrev pub mate_of_kind : Kind → MateCase
-mate_of_kind Party = NoKey
-mate_of_kind Number = NoKey
-mate_of_kind Shared = Itself
-mate_of_kind Public = Apart
-mate_of_kind Table = NoKey
-mate_of_kind Function = NoKey
+abbrev pub mate_of_kind : Kind → Option MateCase
+mate_of_kind Party = None
+mate_of_kind Number = None
+mate_of_kind Shared = Some Itself
+mate_of_kind Public = Some Apart
+mate_of_kind Table = None
+mate_of_kind Function = None
 
 -- what the mate of a two-part term is
-abbrev pub mate_of_form : Form → MateCase
-mate_of_form Pair = NoKey
-mate_of_form Sealed = NoKey
-mate_of_form Digest = NoKey
-mate_of_form Entry = Apart
+abbrev pub mate_of_form : Form → Option MateCase
+mate_of_form Pair = None
+mate_of_form Sealed = None
+mate_of_form Digest = None
+mate_of_form Entry = Some Apart
 
--- what the mate of a term is: a shared key is its own mate, a mate has the key inside, a public key or an entry has one apart
-abbrev pub mate_case : TermNode → MateCase
+-- what the mate of a term is, none for what is no key: a shared key is its own mate, a mate has the key inside, a public key
+-- or an entry has one apart
+abbrev pub mate_case : TermNode → Option MateCase
 mate_case (Name k i) = mate_of_kind k
 mate_case (Built f a b) = mate_of_form f
-mate_case (Mate a) = Inside a
+mate_case (Mate a) = Some (Inside a)
 
 -- the two parts are such as the form asks for
 abbrev pub parts_fit : Form → TermNode → TermNode → Bool

@@ -6,7 +6,7 @@ use Rattle.terms.specs.declared.node.TermNode.TheVariants.{Name, Built, Mate}
 use Rattle.terms.specs.declared.node.TermError.{TermError}
 use Rattle.terms.specs.declared.node.TermError.TheVariants.{Unknown, WrongKind, Full}
 use Rattle.terms.specs.declared.node.MateCase.{MateCase}
-use Rattle.terms.specs.declared.node.MateCase.TheVariants.{NoKey, Itself, Inside, Apart}
+use Rattle.terms.specs.declared.node.MateCase.TheVariants.{Itself, Inside, Apart}
 use Rattle.terms.specs.Node.{node_at}
 use Rattle.terms.specs.Tree.{tree, tree_of, form_of}
 
@@ -75,11 +75,11 @@ abbrev pub Keeps : List TermNode → List TermNode → Type 0
 Keeps ts us = (i : ℕ) → i < length ts → (i < length us) × (tree us i ≡ tree ts i)
 
 -- the mate of a term: what is no key is refused, a shared key has its own number, a mate the number inside, else the mate is inserted
-abbrev pub MatesBy : ℕ → List TermNode → ℕ → MateCase → Result ℕ TermError → List TermNode → Type 0
-MatesBy N ts key NoKey o us = (Key (tree ts key) → ⊥) × (o ≡ Err WrongKind) × (us ≡ ts)
-MatesBy N ts key Itself o us = (o ≡ Ok key) × (us ≡ ts)
-MatesBy N ts key (Inside a) o us = (o ≡ Ok a) × (us ≡ ts)
-MatesBy N ts key Apart o us = Inserts N ts (Mate key) o us
+abbrev pub MatesBy : ℕ → List TermNode → ℕ → Option MateCase → Result ℕ TermError → List TermNode → Type 0
+MatesBy N ts key None o us = (Key (tree ts key) → ⊥) × (o ≡ Err WrongKind) × (us ≡ ts)
+MatesBy N ts key (Some Itself) o us = (o ≡ Ok key) × (us ≡ ts)
+MatesBy N ts key (Some (Inside a)) o us = (o ≡ Ok a) × (us ≡ ts)
+MatesBy N ts key (Some Apart) o us = Inserts N ts (Mate key) o us
 
 -- the opener of a key: the number that stands for it, and none exactly for what is no key or has no opener among the terms
 abbrev pub Opens : List TermNode → ℕ → Option ℕ → Type 0

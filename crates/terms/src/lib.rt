@@ -11,5 +11,5 @@ pub mod node;
 pub mod table;
 pub mod theorems;
 
-pub use node::{Form, Kind, TermError, TermId, TermNode};
+pub use node::{Form, Kind, TermError, TermId, TermNode, UnknownForm, UnknownKind};
 pub use table::Terms;

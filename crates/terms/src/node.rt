@@ -1,6 +1,9 @@
 // What the table keeps for one term, and what may be built from what.
 ghost use Rattle.std.specs.Prelude.{◌≡◌};
-ghost use Rattle.terms.specs.Node.{is_key, is_named, is_asymmetric, parts_fit, mate_case};
+ghost use Rattle.terms.specs.Node.{kind_number, KindAt, FormAt, is_key, is_named, is_asymmetric, parts_fit, mate_case};
+
+use std::error::Error;
+use std::fmt;
 
 // The number of a term, from 0 in order of first appearance.
 pub type TermId = usize;
@@ -16,7 +19,7 @@ pub enum Kind {
     Function,
 }
 
-// The two-part forms: pair (left, right), sealed (content, key), digest (function, term), entry (table, party).
+// The two-part forms, numbered from 0 in this order: pair (left, right), sealed (content, key), digest (function, term), entry (table, party).
 #[derive(Clone, Copy, PartialEq, Eq, Debug)]
 pub enum Form {
     Pair,
@@ -24,6 +27,72 @@ pub enum Form {
     Digest,
     Entry,
 }
+
+// A number that no kind has.
+#[derive(Clone, Copy, PartialEq, Eq, Debug)]
+pub struct UnknownKind(pub usize);
+
+impl TryFrom<usize> for Kind {
+    type Error = UnknownKind;
+
+    ghost try_from_gives = { KindAt };
+
+    fn try_from(number: usize) -> Result<Self, UnknownKind> {
+        match number {
+            0 => Ok(Kind::Party),
+            1 => Ok(Kind::Number),
+            2 => Ok(Kind::Shared),
+            3 => Ok(Kind::Public),
+            4 => Ok(Kind::Table),
+            5 => Ok(Kind::Function),
+            _ => Err(UnknownKind(number)),
+        }
+    }
+}
+
+impl From<Kind> for usize {
+    ghost from_gives = { λ kind number. number ≡ kind_number kind };
+
+    fn from(kind: Kind) -> usize {
+        kind as usize
+    }
+}
+
+impl fmt::Display for UnknownKind {
+    fn fmt<W: fmt::Write>(&self, f: &mut fmt::Formatter<W>) -> fmt::Result {
+        write!(f, "no kind has number {}", self.0)
+    }
+}
+
+impl Error for UnknownKind {}
+
+// A number that no form has.
+#[derive(Clone, Copy, PartialEq, Eq, Debug)]
+pub struct UnknownForm(pub usize);
+
+impl TryFrom<usize> for Form {
+    type Error = UnknownForm;
+
+    ghost try_from_gives = { FormAt };
+
+    fn try_from(number: usize) -> Result<Self, UnknownForm> {
+        match number {
+            0 => Ok(Form::Pair),
+            1 => Ok(Form::Sealed),
+            2 => Ok(Form::Digest),
+            3 => Ok(Form::Entry),
+            _ => Err(UnknownForm(number)),
+        }
+    }
+}
+
+impl fmt::Display for UnknownForm {
+    fn fmt<W: fmt::Write>(&self, f: &mut fmt::Formatter<W>) -> fmt::Result {
+        write!(f, "no form has number {}", self.0)
+    }
+}
+
+impl Error for UnknownForm {}
 
 // One term by the numbers of its parts: a name with its kind and identity, a two-part term, or the mate of a key.
 #[derive(Clone, Copy, PartialEq, Eq, Debug)]
@@ -41,10 +110,9 @@ pub enum TermError {
     Full,
 }
 
-// Where the mate of a term is: there is none, it is the term itself, the key inside, or a term apart.
+// Where the mate of a key is: it is the key itself, the key inside, or a term apart.
 #[derive(Clone, Copy)]
 pub enum MateCase {
-    NoKey,
     Itself,
     Inside(TermId),
     Apart,
@@ -54,33 +122,29 @@ pub enum MateCase {
 pub(crate) fn is_key(node: TermNode) -> bool
     ensures { result ≡ is_key node }
 {
-    match node {
+    matches!(
+        node,
         TermNode::Name(Kind::Shared | Kind::Public, _)
-        | TermNode::Built(Form::Entry, _, _)
-        | TermNode::Mate(_) => true,
-        TermNode::Name(_, _) | TermNode::Built(_, _, _) => false,
-    }
+            | TermNode::Built(Form::Entry, _, _)
+            | TermNode::Mate(_)
+    )
 }
 
 // The keys on which a mate is built: a public key or an entry.
 pub(crate) fn is_asymmetric(node: TermNode) -> bool
     ensures { result ≡ is_asymmetric node }
 {
-    match node {
-        TermNode::Name(kind, _) => kind == Kind::Public,
-        TermNode::Built(form, _, _) => form == Form::Entry,
-        TermNode::Mate(_) => false,
-    }
+    matches!(
+        node,
+        TermNode::Name(Kind::Public, _) | TermNode::Built(Form::Entry, _, _)
+    )
 }
 
 // A name of the kind.
 pub(crate) fn is_named(kind: Kind, node: TermNode) -> bool
     ensures { result ≡ is_named kind node }
 {
-    match node {
-        TermNode::Name(own, _) => own == kind,
-        TermNode::Built(_, _, _) | TermNode::Mate(_) => false,
-    }
+    matches!(node, TermNode::Name(own, _) if own == kind)
 }
 
 // The two parts are such as the form asks for.
@@ -95,14 +159,16 @@ pub(crate) fn parts_fit(form: Form, a: TermNode, b: TermNode) -> bool
     }
 }
 
-// Where the mate of a term is.
-pub(crate) fn mate_case(node: TermNode) -> MateCase
+// Where the mate of a key is; none for what is no key.
+pub(crate) fn mate_case(node: TermNode) -> Option<MateCase>
     ensures { result ≡ mate_case node }
 {
     match node {
-        TermNode::Name(Kind::Shared, _) => MateCase::Itself,
-        TermNode::Name(Kind::Public, _) | TermNode::Built(Form::Entry, _, _) => MateCase::Apart,
-        TermNode::Mate(key) => MateCase::Inside(key),
-        TermNode::Name(_, _) | TermNode::Built(_, _, _) => MateCase::NoKey,
+        TermNode::Name(Kind::Shared, _) => Some(MateCase::Itself),
+        TermNode::Name(Kind::Public, _) | TermNode::Built(Form::Entry, _, _) => Some(
+            MateCase::Apart,
+        ),
+        TermNode::Mate(key) => Some(MateCase::Inside(key)),
+        TermNode::Name(_, _) | TermNode::Built(_, _, _) => None,
     }
 }

@@ -13,8 +13,7 @@ impl<const N: usize> Terms<N> {
         if key >= self.len() {
             return Err(TermError::Unknown);
         }
-        match mate_case(self.node(key)) {
-            MateCase::NoKey => Err(TermError::WrongKind),
+        match mate_case(self.node(key)).ok_or(TermError::WrongKind)? {
             MateCase::Itself => Ok(key),
             MateCase::Inside(inner) => Ok(inner),
             MateCase::Apart => self.insert(TermNode::Mate(key)),
@@ -28,8 +27,7 @@ impl<const N: usize> Terms<N> {
         if key >= self.len() {
             return None;
         }
-        match mate_case(self.node(key)) {
-            MateCase::NoKey => None,
+        match mate_case(self.node(key))? {
             MateCase::Itself => Some(key),
             MateCase::Inside(inner) => Some(inner),
             MateCase::Apart => self.find(TermNode::Mate(key)),
