@@ -1,5 +1,6 @@
 -- The records that a table holds, and what the calls that add terms do to it.
-use Rattle.std.specs.Prelude.{◌≡◌, ℕ, ◌<◌, ◌≤◌, List, length, take, Ok, Err, Result}
+use Rattle.std.specs.Prelude.{◌≡◌, ℕ, ◌<◌, ◌≤◌, List, length, Ok, Err, Result}
+use Rattle.bounded.specs.Items.{items}
 use Rattle.deduction.specs.Term.{mate_of}
 use Rattle.terms.specs.declared.node.TermNode.{TermNode}
 use Rattle.terms.specs.declared.node.TermError.{TermError}
@@ -9,9 +10,9 @@ use Rattle.terms.specs.Node.{node_at, mate_case}
 use Rattle.terms.specs.Tree.{tree, tree_of}
 use Rattle.terms.specs.Outcome.{Inserts, MatesBy, Stands, Keeps}
 
--- the records in number order; what unused places hold is no part of it
+-- the records in number order
 abbrev pub listed : {N : ℕ} → Terms N → List TermNode
-listed t = take t.count t.nodes
+listed t = items t.nodes
 
 -- a refusal leaves the table as it was
 abbrev pub Unchanged : {N : ℕ} → Result ℕ TermError → Terms N → Terms N → Type 0

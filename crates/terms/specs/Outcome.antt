@@ -1,5 +1,6 @@
 -- What each call answers, and the records that it leaves.
-use Rattle.std.specs.Prelude.{◌≡◌, ℕ, ◌<◌, ◌≤◌, ◌⊎◌, List, [], ◌∷◌, ◌++◌, length, Some, None, Ok, Err, Option, Result, ◌≢◌}
+use Rattle.std.specs.Prelude.{◌≡◌, ℕ, ◌<◌, ◌≤◌, ◌⊎◌, List, [], ◌∷◌, ◌++◌, length, Some, None, Ok, Err, Option, Result, MatchOption, ◌≢◌}
+use Rattle.std.specs.List.{AllWithin, HoldsAt}
 use Rattle.deduction.specs.Term.{Term, Key, PartsFit, Asymmetric, opener}
 use Rattle.terms.specs.declared.node.TermNode.{TermNode}
 use Rattle.terms.specs.declared.node.TermNode.TheVariants.{Name, Built, Mate}
@@ -22,6 +23,15 @@ Absent ts r = (k : ℕ) → k < length ts → node_at ts k ≢ r
 abbrev pub Reads : List TermNode → ℕ → Option TermNode → Type 0
 Reads ts n None = length ts ≤ n
 Reads ts n (Some r) = Has ts n r
+
+-- reading a part: its record with the tree that it stands for, and the refusal exactly for what is no term
+abbrev pub ReadsPart : List TermNode → ℕ → Result TermNode TermError → Type 0
+ReadsPart ts n (Ok r) = Has ts n r × (tree ts n ≡ tree_of r (tree ts))
+ReadsPart ts n (Err e) = (length ts ≤ n) × (e ≡ Unknown)
+
+-- looking for a record from number 0 on: the first that has it, and none exactly when no number has it
+abbrev pub FoundFirst : List TermNode → TermNode → Option ℕ → Type 0
+FoundFirst ts r o = MatchOption o (AllWithin (λ s. s ≢ r) ts 0 (length ts)) (λ n. (n < length ts) × HoldsAt (λ s. s ≡ r) ts n × AllWithin (λ s. s ≢ r) ts 0 n)
 
 -- looking for a record: a number that has it, and none exactly when no number has it
 abbrev pub Found : List TermNode → TermNode → Option ℕ → Type 0

@@ -1,18 +1,11 @@
 // What can be composed from held terms, and what is missing.
 ghost use Rattle.std.specs.Prelude.{◌≡◌, ℕ, ◌<◌, ◌≤◌, false, length, get_or, if◌then◌else◌, Decides, slice_index_or};
+ghost use Rattle.terms.specs.Node.{node_at};
 ghost use Rattle.terms.specs.Held.{ComposableId, JudgedBelow, Misses, Lacking};
 ghost use Rattle.terms.specs.Listed.{listed};
 
 use crate::node::{TermId, TermNode};
 use crate::table::Terms;
-
-// Nothing is marked yet.
-fn unmarked<const N: usize>() -> [bool; N]
-    ensures size { length result ≡ N }
-    ensures none { (i : ℕ) → slice_index_or result i false ≡ false }
-{
-    [false; N]
-}
 
 // Where to look on for what is missing in a two-part term: in its left part, unless that is composable.
 fn lacking_part(judged: &[bool], a: TermId, b: TermId) -> TermId
@@ -29,13 +22,11 @@ impl<const N: usize> Terms<N> {
         requires lower { JudgedBelow (listed self.now) held.now judged.now id }
         ensures { Decides result (ComposableId (listed self.now) held.now id) }
     {
-        if held[id] {
-            return true;
-        }
-        match self.node(id) {
-            TermNode::Built(_, a, b) => judged[a] && judged[b],
-            TermNode::Name(_, _) | TermNode::Mate(_) => false,
-        }
+        held[id]
+            || match self.nodes.as_slice()[id] {
+                TermNode::Built(_, a, b) => judged[a] && judged[b],
+                TermNode::Name(_, _) | TermNode::Mate(_) => false,
+            }
     }
 
     // Which numbers are composable from the held ones: one pass from the lowest number up.
@@ -44,7 +35,7 @@ impl<const N: usize> Terms<N> {
         ensures rest { (i : ℕ) → length (listed self.now) ≤ i → slice_index_or result i false ≡ false }
         ensures size { length result ≡ N }
     {
-        let mut judged = unmarked();
+        let mut judged = [false; N];
         for id in 0..self.len() {
             judged[id] = self.judge(held, &judged, id);
         }
@@ -56,15 +47,12 @@ impl<const N: usize> Terms<N> {
         ensures first { Misses (listed self.now) held.now id result }
         ensures lacking { Lacking (listed self.now) held.now id result }
     {
-        if id >= self.len() {
-            return None;
-        }
         let judged = self.composable(held);
-        if judged[id] {
+        if id >= self.len() || judged[id] {
             return None;
         }
         let mut lacking = id;
-        while let TermNode::Built(_, a, b) = self.node(lacking) {
+        while let TermNode::Built(_, a, b) = self.nodes.as_slice()[lacking] {
             lacking = lacking_part(&judged, a, b);
         }
         Some(lacking)

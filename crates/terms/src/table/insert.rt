@@ -1,8 +1,5 @@
 // Adding terms. A term that is there is answered with its number, also when the table is full.
-ghost use Rattle.std.specs.Prelude.{◌<◌, length, Decides};
-ghost use Rattle.deduction.specs.Term.{PartsFit, Asymmetric};
-ghost use Rattle.terms.specs.Tree.{tree, form_of};
-ghost use Rattle.terms.specs.Outcome.{Known, Proper, Absent, Checks};
+ghost use Rattle.terms.specs.Outcome.{ReadsPart, Known, Proper, Absent, Checks};
 ghost use Rattle.terms.specs.Listed.{listed, Inserted};
 ghost use Rattle.terms.specs.declared.node.TermNode.TheVariants.{Name, Built, Mate};
 
@@ -10,57 +7,23 @@ use crate::node::{Form, Kind, TermError, TermId, TermNode, is_asymmetric, parts_
 use crate::table::Terms;
 
 impl<const N: usize> Terms<N> {
-    // Whether two terms are parts such as the form asks for.
-    fn may_build(&self, form: Form, a: TermId, b: TermId) -> bool
-        requires { (a < length (listed self.now)) × (b < length (listed self.now)) }
-        ensures { Decides result (PartsFit (form_of form) (tree (listed self.now) a) (tree (listed self.now) b)) }
+    // The record of a part, which has to be a term.
+    pub(super) fn part(&self, id: TermId) -> Result<TermNode, TermError>
+        ensures { ReadsPart (listed self.now) id result }
     {
-        parts_fit(form, self.node(a), self.node(b))
-    }
-
-    // Whether a term is a key on which a mate is built.
-    fn may_mate(&self, key: TermId) -> bool
-        requires { key < length (listed self.now) }
-        ensures { Decides result (Asymmetric (tree (listed self.now) key)) }
-    {
-        is_asymmetric(self.node(key))
-    }
-
-    // The test of the two parts of a form.
-    fn check_parts(&self, form: Form, a: TermId, b: TermId) -> Result<(), TermError>
-        ensures { Checks N (listed self.now) (Built form a b) result }
-    {
-        if a >= self.len() || b >= self.len() {
-            Err(TermError::Unknown)
-        } else if self.may_build(form, a, b) {
-            Ok(())
-        } else {
-            Err(TermError::WrongKind)
-        }
-    }
-
-    // The test of the key in a mate.
-    fn check_key(&self, key: TermId) -> Result<(), TermError>
-        ensures { Checks N (listed self.now) (Mate key) result }
-    {
-        if key >= self.len() {
-            Err(TermError::Unknown)
-        } else if self.may_mate(key) {
-            Ok(())
-        } else {
-            Err(TermError::WrongKind)
-        }
+        self.get(id).ok_or(TermError::Unknown)
     }
 
     // The test of a record's parts.
     fn check(&self, node: TermNode) -> Result<(), TermError>
         ensures { Checks N (listed self.now) node result }
     {
-        match node {
-            TermNode::Name(_, _) => Ok(()),
-            TermNode::Built(form, a, b) => self.check_parts(form, a, b),
-            TermNode::Mate(key) => self.check_key(key),
-        }
+        let fits = match node {
+            TermNode::Name(_, _) => true,
+            TermNode::Built(form, a, b) => parts_fit(form, self.part(a)?, self.part(b)?),
+            TermNode::Mate(key) => is_asymmetric(self.part(key)?),
+        };
+        fits.then_some(()).ok_or(TermError::WrongKind)
     }
 
     // Writes a new record under the next number.
@@ -70,13 +33,7 @@ impl<const N: usize> Terms<N> {
         requires absent { Absent (listed self.old) node }
         ensures { Inserted self.old node result self.new }
     {
-        let id = self.count;
-        if id >= N {
-            return Err(TermError::Full);
-        }
-        self.nodes[id] = node;
-        self.count = id + 1;
-        Ok(id)
+        self.nodes.push(node).map_err(|_| TermError::Full)
     }
 
     // The number of a record, which is added if it is new.

@@ -10,10 +10,7 @@ impl<const N: usize> Terms<N> {
     pub fn mate(&mut self, key: TermId) -> Result<TermId, TermError>
         ensures { Mated self.old key result self.new }
     {
-        if key >= self.len() {
-            return Err(TermError::Unknown);
-        }
-        match mate_case(self.node(key)).ok_or(TermError::WrongKind)? {
+        match mate_case(self.part(key)?).ok_or(TermError::WrongKind)? {
             MateCase::Itself => Ok(key),
             MateCase::Inside(inner) => Ok(inner),
             MateCase::Apart => self.insert(TermNode::Mate(key)),
@@ -24,10 +21,7 @@ impl<const N: usize> Terms<N> {
     pub fn opener(&self, key: TermId) -> Option<TermId>
         ensures { Opens (listed self.now) key result }
     {
-        if key >= self.len() {
-            return None;
-        }
-        match mate_case(self.node(key))? {
+        match mate_case(self.get(key)?)? {
             MateCase::Itself => Some(key),
             MateCase::Inside(inner) => Some(inner),
             MateCase::Apart => self.find(TermNode::Mate(key)),

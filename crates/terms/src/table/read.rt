@@ -1,20 +1,13 @@
 // The blank table, and what reading one answers.
-ghost use Rattle.std.specs.Prelude.{◌≡◌, ◌<◌, ◌≤◌, [], length};
+ghost use Rattle.std.specs.Prelude.{◌≡◌, ◌<◌, ◌≤◌, [], length, IfSome};
 ghost use Rattle.deduction.specs.Term.{Formed};
-ghost use Rattle.terms.specs.Node.{node_at};
 ghost use Rattle.terms.specs.Tree.{tree, tree_of};
-ghost use Rattle.terms.specs.Outcome.{Reads, Found, FoundTree};
+ghost use Rattle.terms.specs.Outcome.{Reads, FoundFirst, Found, FoundTree};
 ghost use Rattle.terms.specs.Listed.{listed};
 
 use crate::node::{Kind, TermId, TermNode};
 use crate::table::Terms;
-
-// Places that hold no term yet.
-fn unused<const N: usize>() -> [TermNode; N]
-    ensures { length result ≡ N }
-{
-    [TermNode::Name(Kind::Party, 0); N]
-}
+use bounded::BoundedVec;
 
 impl<const N: usize> Terms<N> {
     // A table with no terms.
@@ -22,8 +15,7 @@ impl<const N: usize> Terms<N> {
         ensures { listed result ≡ [] }
     {
         Terms {
-            nodes: unused(),
-            count: 0,
+            nodes: BoundedVec::new(TermNode::Name(Kind::Party, 0)),
         }
     }
 
@@ -32,41 +24,27 @@ impl<const N: usize> Terms<N> {
         ensures is { result ≡ length (listed self.now) }
         ensures few { result ≤ N }
     {
-        self.count
+        self.nodes.len()
     }
 
-    // The record of a number, and the tree that it makes of the trees of its parts.
-    pub(super) fn node(&self, id: TermId) -> TermNode
-        requires { id < length (listed self.now) }
-        ensures is { result ≡ node_at (listed self.now) id }
-        ensures stands { tree (listed self.now) id ≡ tree_of result (tree (listed self.now)) }
-        ensures formed { Formed (tree (listed self.now) id) }
-    {
-        self.nodes[id]
-    }
-
-    // The record of a number, if it is the number of a term.
+    // The record of a number, if it is the number of a term; the number stands for the tree that it makes of the trees of its parts.
+    #[tactic(auto, using(crate::proofs::Listed::got))]
     pub fn get(&self, id: TermId) -> Option<TermNode>
         ensures reads { Reads (listed self.now) id result }
+        ensures stands { IfSome result (λ node. tree (listed self.now) id ≡ tree_of node (tree (listed self.now))) }
         ensures formed { id < length (listed self.now) → Formed (tree (listed self.now) id) }
     {
-        if id < self.len() {
-            Some(self.node(id))
-        } else {
-            None
-        }
+        self.nodes.get(id)
     }
 
-    // The number of a record, looked for from 0 on.
+    // The first place of a record.
     fn position(&self, node: TermNode) -> Option<TermId>
-        ensures { Found (listed self.now) node result }
+        ensures { FoundFirst (listed self.now) node result }
     {
-        for id in 0..self.len() {
-            if self.node(id) == node {
-                return Some(id);
-            }
-        }
-        None
+        self.nodes
+            .as_slice()
+            .iter()
+            .position(|other| *other == node)
     }
 
     // The number of a record, if it has one.

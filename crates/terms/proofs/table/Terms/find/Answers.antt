@@ -1,9 +1,10 @@
 use Rattle.terms.specs.Listed.{listed}
-use Rattle.terms.proofs.Insert.{found_tree}
+use Rattle.terms.proofs.Insert.{found_first, found_tree}
 use Rattle.terms.proofs.Listed.{orderly}
 use Rattle.terms.proofs.table.Terms.find.Goals as goal
 
 pub returns : goal.returns
 returns g c =
     let t = c.args.self.now in
-    record { found = c.position.ensures; stands = found_tree (listed t) c.args.node c.position.result (orderly t) c.position.ensures }
+    let first = found_first (listed t) c.args.node c.position.result c.position.ensures in
+    record { found = first; stands = found_tree (listed t) c.args.node c.position.result (orderly t) first }
