@@ -1,5 +1,5 @@
 -- Inserting a record of terms is carrying out its making.
-use Rattle.std.proofs.Common.{◌≡◌, ℕ, ◌<◌, ◌≤◌, Bool, true, false, ◌⊎◌, List, [], ◌∷◌, length, Some, None, Ok, Err, Decides, Option, Result, sym, refl, ap, ◌∙◌, inl, inr, ⊎_elim, length-append, le-leb}
+use Rattle.std.proofs.Common.{◌≡◌, ℕ, ◌<◌, ◌≤◌, Bool, true, false, ◌⊎◌, List, [], ◌∷◌, length, Some, None, Ok, Err, Decides, Option, Result, sym, refl, ap, ◌∙◌, inl, inr, ⊎_elim, length-append, leb, le-leb}
 use Rattle.std.proofs.lemmas.Bool.{cases_lt}
 use Rattle.deduction.specs.Term.{Term, built}
 use Rattle.deduction.specs.Decide.{parts_fit}
@@ -12,6 +12,8 @@ use Rattle.terms.specs.declared.node.Form.TheVariants.{Pair, Sealed, Digest, Ent
 use Rattle.terms.specs.declared.node.TermNode.{TermNode}
 use Rattle.terms.specs.declared.node.TermNode.TheVariants.{Name, Built}
 use Rattle.terms.specs.declared.node.Kind.{Kind}
+use Rattle.terms.specs.declared.node.Kind.TheVariants.{Party, Number, Shared, Public, Table, Function}
+use Rattle.terms.specs.Node.{kind_number}
 use Rattle.terms.specs.declared.node.TermError.{TermError}
 use Rattle.terms.specs.declared.node.TermError.TheVariants.{Unknown, WrongKind, Full as NoPlace}
 use Rattle.terms.specs.Listed.{Inserted}
@@ -95,9 +97,17 @@ module _ (s : SymbolicProvider) (a b : ℕ) where
       }
 
 -- an atom within the bounds
-pub atom_makes : (s : SymbolicProvider) (kind id : ℕ) (k : Kind) → kind ≤ 5 → kind_of k ≡ kind_at kind → id ≤ 65535 → Makes s (Atom kind id) (Name k id)
-atom_makes s kind id k lk ek li = record {
-  some = λ known proper. rw (le-leb kind 5 lk, le-leb id 65535 li, ek) refl;
+kind_bound : (k : Kind) → (leb (kind_number k) 5 ≡ true) × (kind_of k ≡ kind_at (kind_number k))
+kind_bound Party = (refl, refl)
+kind_bound Number = (refl, refl)
+kind_bound Shared = (refl, refl)
+kind_bound Public = (refl, refl)
+kind_bound Table = (refl, refl)
+kind_bound Function = (refl, refl)
+
+pub atom_makes : (s : SymbolicProvider) (kind id : ℕ) (k : Kind) → kind_number k ≡ kind → id ≤ 65535 → Makes s (Atom kind id) (Name k id)
+atom_makes s kind id k e li = rw (← e) (record {
+  some = λ known proper. rw ((kind_bound k).0, le-leb id 65535 li, (kind_bound k).1) refl;
   unknown = λ none. absurd (none tt);
   unfit = λ known unfit. absurd (unfit tt);
-}
+})

@@ -50,10 +50,7 @@ impl SymbolicProvider {
         ensures { result ≡ fits_of self.now making }
     {
         let mut trial = *self;
-        match trial.make(making) {
-            Ok(_) => true,
-            Err(_) => false,
-        }
+        trial.make(making).is_ok()
     }
 }
 

@@ -1,8 +1,10 @@
-use Rattle.symbolic_provider.proofs.Parts.{right_done, right_wrong}
+use Rattle.std.proofs.Common.{◌≡◌, rules}
+use Rattle.std.specs.Option.{ok_or, option_map}
+use Rattle.provider.specs.declared.ProviderError.TheVariants.{Wrong}
+use Rattle.symbolic_provider.proofs.Parts.{right_done}
 use Rattle.symbolic_provider.proofs.store.SymbolicProvider.make_right.Goals as goal
 
-pub returns-in-Some : goal.returns-in-Some
-returns-in-Some c = right_done c.args.self.now c.args.joined _ c.in-Some.ensures
-
-pub returns-in-None : goal.returns-in-None
-returns-in-None c = right_wrong c.args.self.now c.args.joined c.in-None.ensures
+pub returns : goal.returns
+returns c =
+    let is : c.ok_or.result ≡ ok_or (option_map (λ p. p.1) c.parts_at.result) Wrong = search rules in
+    rw is (right_done c.args.self.now c.args.joined c.parts_at.result c.parts_at.ensures)
