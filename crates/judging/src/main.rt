@@ -3,44 +3,26 @@
 
 #![tactic(auto)]
 
+ghost use Rattle.std.specs.Prelude.{◌<◌};
+
 mod naive;
 mod random;
 
-use naive::{composes, misses};
+use naive::Recursion;
 use random::Random;
-use std::io;
+use std::{array, io};
 use terms::{Form, Kind, TermId, Terms};
 
 const PLACES: usize = 24;
-
-fn kind_at(number: usize) -> Kind {
-    match number {
-        0 => Kind::Party,
-        1 => Kind::Number,
-        2 => Kind::Shared,
-        3 => Kind::Public,
-        4 => Kind::Table,
-        _ => Kind::Function,
-    }
-}
-
-fn form_at(number: usize) -> Form {
-    match number {
-        0 => Form::Pair,
-        1 => Form::Sealed,
-        2 => Form::Digest,
-        _ => Form::Entry,
-    }
-}
 
 // One more call that may add a term; a refusal is as good.
 fn add(terms: &mut Terms<PLACES>, random: &mut Random) {
     let a = random.below(PLACES);
     let b = random.below(PLACES);
     let _ = match random.below(4) {
-        0 => terms.name(kind_at(random.below(6)), random.below(3)),
+        0 => terms.name(Kind::try_from(random.below(6)).unwrap(), random.below(3)),
         1 => terms.mate(a),
-        _ => terms.build(form_at(random.below(4)), a, b),
+        _ => terms.build(Form::try_from(random.below(4)).unwrap(), a, b),
     };
 }
 
@@ -53,24 +35,26 @@ fn random_table(random: &mut Random) -> Terms<PLACES> {
 }
 
 fn random_held(random: &mut Random) -> [bool; PLACES] {
-    let mut held = [false; PLACES];
     let one_in = 2 + random.below(4);
-    for h in held.iter_mut() {
-        *h = random.below(one_in) == 0;
-    }
-    held
+    array::from_fn(
+        |_| -> bool
+            requires { 0 < one_in }
+        { random.below(one_in) == 0 },
+    )
 }
 
 // How many terms of one random table the two agree on, or None where they differ.
 fn agree(random: &mut Random) -> Option<usize> {
     let terms = random_table(random);
     let held = random_held(random);
-    let judged = terms.composable(&held);
-    for id in 0..PLACES {
-        if judged[id] != composes(&terms, &held, id, PLACES) {
-            return None;
-        }
-        if terms.first_missing(&held, id) != misses(&terms, &held, id, PLACES) {
+    let recursion = Recursion {
+        terms: &terms,
+        held: &held,
+    };
+    for (id, composable) in terms.composable(&held).iter().enumerate() {
+        if *composable != recursion.composes(id, PLACES)
+            || terms.first_missing(&held, id) != recursion.misses(id, PLACES)
+        {
             return None;
         }
     }
@@ -105,10 +89,10 @@ fn main(rt: HostRuntime) -> io::Result<()> {
     let mut random = Random::new(20261117);
     let mut judged: usize = 0;
     for table in 0..3000 {
-        match agree(&mut random) {
-            Some(n) => judged = judged.saturating_add(n),
-            None => return println!(rt; "table {table}: the one pass and the recursion differ"),
-        }
+        let Some(n) = agree(&mut random) else {
+            return println!(rt; "table {table}: the one pass and the recursion differ");
+        };
+        judged = judged.saturating_add(n);
     }
     println!(rt; "3000 tables: the one pass and the recursion agree on {judged} terms")
 }

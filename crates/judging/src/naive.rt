@@ -1,42 +1,42 @@
 // The plain recursion: into the parts, again and again. It would take for ever on large tables with shared parts.
+use crate::PLACES;
 use terms::{TermId, TermNode, Terms};
 
-// Whether a term is held, or both its parts are composable.
-pub(crate) fn composes<const N: usize>(
-    terms: &Terms<N>,
-    held: &[bool; N],
-    id: TermId,
-    depth: usize,
-) -> bool {
-    if depth == 0 || id >= N {
-        return false;
-    }
-    match terms.get(id) {
-        None => false,
-        Some(_) if held[id] => true,
-        Some(TermNode::Built(_, a, b)) => composes(terms, held, a, depth - 1)
-            && composes(terms, held, b, depth - 1),
-        Some(TermNode::Name(_, _) | TermNode::Mate(_)) => false,
-    }
+// A table with the terms that are held of it.
+#[derive(Clone, Copy)]
+pub(crate) struct Recursion<'a> {
+    pub(crate) terms: &'a Terms<PLACES>,
+    pub(crate) held: &'a [bool; PLACES],
 }
 
-// The first name or mate, from left to right, for want of which a term is not composable.
-pub(crate) fn misses<const N: usize>(
-    terms: &Terms<N>,
-    held: &[bool; N],
-    id: TermId,
-    depth: usize,
-) -> Option<TermId> {
-    if depth == 0 || id >= N {
-        return None;
+impl Recursion<'_> {
+    // Whether a term is held, or both its parts are composable.
+    pub(crate) fn composes(&self, id: TermId, depth: usize) -> bool {
+        if depth == 0 || id >= PLACES {
+            return false;
+        }
+        match self.terms.get(id) {
+            None => false,
+            Some(_) if self.held[id] => true,
+            Some(TermNode::Built(_, a, b)) => self.composes(a, depth - 1)
+                && self.composes(b, depth - 1),
+            Some(TermNode::Name(_, _) | TermNode::Mate(_)) => false,
+        }
     }
-    match terms.get(id) {
-        None => None,
-        Some(_) if held[id] => None,
-        Some(TermNode::Built(_, a, b)) => match misses(terms, held, a, depth - 1) {
-            Some(lacking) => Some(lacking),
-            None => misses(terms, held, b, depth - 1),
-        },
-        Some(TermNode::Name(_, _) | TermNode::Mate(_)) => Some(id),
+
+    // The first name or mate, from left to right, for want of which a term is not composable.
+    pub(crate) fn misses(&self, id: TermId, depth: usize) -> Option<TermId> {
+        if depth == 0 || id >= PLACES {
+            return None;
+        }
+        match self.terms.get(id)? {
+            _ if self.held[id] => None,
+            // a match, since a recursion through a closure wants a measure of its own
+            TermNode::Built(_, a, b) => match self.misses(a, depth - 1) {
+                None => self.misses(b, depth - 1),
+                lacking => lacking,
+            },
+            TermNode::Name(_, _) | TermNode::Mate(_) => Some(id),
+        }
     }
 }

@@ -19,7 +19,8 @@ pub enum Kind {
     Function,
 }
 
-// The two-part forms, numbered from 0 in this order: pair (left, right), sealed (content, key), digest (function, term), entry (table, party).
+// The two-part forms, numbered from 0 in this order: pair (left, right), sealed (content, key), digest (function, term),
+// entry (table, party).
 #[derive(Clone, Copy, PartialEq, Eq, Debug)]
 pub enum Form {
     Pair,
@@ -165,9 +166,8 @@ pub(crate) fn mate_case(node: TermNode) -> Option<MateCase>
 {
     match node {
         TermNode::Name(Kind::Shared, _) => Some(MateCase::Itself),
-        TermNode::Name(Kind::Public, _) | TermNode::Built(Form::Entry, _, _) => Some(
-            MateCase::Apart,
-        ),
+        TermNode::Name(Kind::Public, _) => Some(MateCase::Apart),
+        TermNode::Built(Form::Entry, _, _) => Some(MateCase::Apart),
         TermNode::Mate(key) => Some(MateCase::Inside(key)),
         TermNode::Name(_, _) | TermNode::Built(_, _, _) => None,
     }

@@ -24,18 +24,13 @@ impl SymbolicProvider {
         }
     }
 
-    // A handle's record, whose parts are handles too: they are the numbers of the table.
-    fn record_of(&self, handle: Handle) -> Option<TermNode>
-        ensures { Recorded (issued_of self.now) handle result }
-    {
-        self.terms.get(handle)
-    }
-
-    // The term that a handle stands for, by its name or by the handles of its parts; none if the handle was never issued.
+    // The term that a handle stands for, by its name or by the handles of its parts, which are the numbers of the table; none if
+    // the handle was never issued.
+    #[tactic(auto, using(crate::proofs::Records::recorded))]
     pub fn term(&self, handle: Handle) -> Option<TermNode>
         ensures { Recorded (issued_of self.now) handle result }
     {
-        self.record_of(handle)
+        self.terms.get(handle)
     }
 
     // Whether two handles stand for one term: they are one number then.

@@ -1,6 +1,5 @@
 // What can be composed from held terms, and what is missing.
 ghost use Rattle.std.specs.Prelude.{◌≡◌, ℕ, ◌<◌, ◌≤◌, false, length, get_or, if◌then◌else◌, Decides, slice_index_or};
-ghost use Rattle.terms.specs.Node.{node_at};
 ghost use Rattle.terms.specs.Held.{ComposableId, JudgedBelow, Misses, Lacking};
 ghost use Rattle.terms.specs.Listed.{listed};
 
