@@ -1,5 +1,5 @@
 -- Building a term, as the rules have it.
-use Rattle.std.proofs.Common.{◌≡◌, ℕ, zero, suc, ◌+◌, ◌<◌, ◌≤◌, Bool, true, false, eqb, ltb, ◌⊎◌, List, [], ◌∷◌, length, Some, Ok, Err, Decides, Result, sym, refl, ap, ◌∙◌, subst, inl, inr, arith, le-ltb, lt-ltb}
+use Rattle.std.proofs.Common.{◌≡◌, ℕ, zero, suc, ◌+◌, ◌<◌, ◌≤◌, Bool, true, false, eqb, ltb, ◌⊎◌, List, [], ◌∷◌, length, Some, None, Ok, Err, Decides, Option, Result, sym, refl, ap, ◌∙◌, subst, inl, inr, arith, le-ltb, lt-ltb}
 use Rattle.std.proofs.lemmas.Bool.{cases_lt}
 use Rattle.std.proofs.lemmas.List.{length_push}
 use Rattle.deduction.specs.Term.{party, number, shared, public, table, function, Form as TreeForm, Term, name, built, mate, mate_of, Key, Asymmetric}
@@ -11,7 +11,7 @@ use Rattle.terms.specs.declared.node.Form.TheVariants.{Pair, Sealed, Digest, Ent
 use Rattle.terms.specs.declared.node.TermNode.{TermNode}
 use Rattle.terms.specs.declared.node.TermNode.TheVariants.{Name, Built, Mate}
 use Rattle.terms.specs.declared.node.MateCase.{MateCase}
-use Rattle.terms.specs.declared.node.MateCase.TheVariants.{NoKey, Itself, Inside, Apart}
+use Rattle.terms.specs.declared.node.MateCase.TheVariants.{Itself, Inside, Apart}
 use Rattle.terms.specs.declared.node.TermError.{TermError}
 use Rattle.terms.specs.declared.node.TermError.TheVariants.{Unknown as NoTerm, WrongKind as WrongPart, Full}
 use Rattle.terms.specs.declared.table.Terms.{Terms}
@@ -188,20 +188,20 @@ asymmetric_key (name k i) e = subst (λ j. Key (name j i)) (sym e) tt
 asymmetric_key (built f a b) e = e
 asymmetric_key (mate k) e = absurd e
 
-mate_key : (r : TermNode) → (mate_case r ≡ NoKey → ⊥) → isKeyNode r ≡ true
-mate_key (Name Party i) f = absurd (f refl)
-mate_key (Name Number i) f = absurd (f refl)
-mate_key (Name Shared i) f = refl
-mate_key (Name Public i) f = refl
-mate_key (Name Table i) f = absurd (f refl)
-mate_key (Name Function i) f = absurd (f refl)
-mate_key (Built Pair a b) f = absurd (f refl)
-mate_key (Built Sealed a b) f = absurd (f refl)
-mate_key (Built Digest a b) f = absurd (f refl)
-mate_key (Built Entry a b) f = refl
-mate_key (Mate a) f = refl
+mate_key : (r : TermNode) (k : MateCase) → mate_case r ≡ Some k → isKeyNode r ≡ true
+mate_key (Name Party i) k e = cc
+mate_key (Name Number i) k e = cc
+mate_key (Name Shared i) k e = refl
+mate_key (Name Public i) k e = refl
+mate_key (Name Table i) k e = cc
+mate_key (Name Function i) k e = cc
+mate_key (Built Pair a b) k e = cc
+mate_key (Built Sealed a b) k e = cc
+mate_key (Built Digest a b) k e = cc
+mate_key (Built Entry a b) k e = refl
+mate_key (Mate a) k e = refl
 
-apart_asymmetric : (r : TermNode) → mate_case r ≡ Apart → is_asymmetric r ≡ true
+apart_asymmetric : (r : TermNode) → mate_case r ≡ Some Apart → is_asymmetric r ≡ true
 apart_asymmetric (Name Party i) e = cc
 apart_asymmetric (Name Number i) e = cc
 apart_asymmetric (Name Shared i) e = cc
@@ -240,7 +240,7 @@ module _ (t u : Terms 512) (a b : ℕ) where
       (keyed ps ss l k ∙ placed_there ks (orderly t) ps ss mating (mate_of (tree ks a)) (mated a) n lk ik)
       refl (ap (λ vs. state_by vs ps ss) same)
 
-  mate_inserted : (o : Result ℕ TermError) → a < length ks → mate_case (node_at ks a) ≡ Apart → Inserts 512 ks (Mate a) o ms
+  mate_inserted : (o : Result ℕ TermError) → a < length ks → mate_case (node_at ks a) ≡ Some Apart → Inserts 512 ks (Mate a) o ms
       → Stands ms o (mate_of (tree ks a)) → Keeps ks ms → (ps : List (List Line)) (ss : List Step)
       → scripts_known (length ks) ps ≡ true → steps_known (length ks) ss ≡ true
       → Performed (state_by ks ps ss) mating (numberTold (accepted o)) (state_by ms ps ss)
@@ -265,26 +265,26 @@ module _ (t u : Terms 512) (a b : ℕ) where
       → Performed (state_by ks ps ss) mating (numberTold (accepted o)) (state_by ms ps ss)
   mate_performed o m ps ss kp kt = go (cases_lt a (length ks))
     where
-      key_there : a < length ks → (mate_case (node_at ks a) ≡ NoKey → ⊥) → Key (tree ks a)
-      key_there l f = (key_at ks (orderly t) a l).0 (mate_key (node_at ks a) f)
+      key_there : a < length ks → (k : MateCase) → mate_case (node_at ks a) ≡ Some k → Key (tree ks a)
+      key_there l k e = (key_at ks (orderly t) a l).0 (mate_key (node_at ks a) k e)
 
       -- a number whose record was there
-      answered : (n : ℕ) → o ≡ Ok n → ms ≡ ks → a < length ks → (mate_case (node_at ks a) ≡ NoKey → ⊥)
+      answered : (n : ℕ) → o ≡ Ok n → ms ≡ ks → a < length ks → (k : MateCase) → mate_case (node_at ks a) ≡ Some k
           → Performed (state_by ks ps ss) mating (numberTold (accepted o)) (state_by ms ps ss)
-      answered n e same l f =
+      answered n e same l k f =
           let s : Stands ms (Ok n) (mate_of (tree ks a)) = subst (λ p. Stands ms p (mate_of (tree ks a))) e m.stands in
           subst (λ p. Performed (state_by ks ps ss) mating (numberTold (accepted p)) (state_by ms ps ss)) (sym e)
-          (found_mate ps ss n l (key_there l f) same s.0 s.1)
+          (found_mate ps ss n l (key_there l k f) same s.0 s.1)
 
-      by : (k : MateCase) → a < length ks → mate_case (node_at ks a) ≡ k → MatesBy 512 ks a k o ms
+      by : (k : Option MateCase) → a < length ks → mate_case (node_at ks a) ≡ k → MatesBy 512 ks a k o ms
           → Performed (state_by ks ps ss) mating (numberTold (accepted o)) (state_by ms ps ss)
-      by NoKey l e w =
+      by None l e w =
           let k : is_key (tree ks a) ≡ false = not_proved (is_key (tree ks a)) (key_decides (tree ks a)) w.0 in
           subst (λ p. Performed (state_by ks ps ss) mating (numberTold (accepted p)) (state_by ms ps ss)) (sym w.1)
           (refused_as_before t u 4 a b ps ss WrongKind WrongPart w.2 refl (rw (nth_trees ks a l, k) refl))
-      by Itself l e w = answered a w.0 w.1 l (λ q. let z : ◌≡◌ {A = ℕ} 0 1 = cc in absurd (omega arith))
-      by (Inside i) l e w = answered i w.0 w.1 l (λ q. let z : ◌≡◌ {A = ℕ} 0 1 = cc in absurd (omega arith))
-      by Apart l e w = mate_inserted o l e w m.stands m.keeps ps ss kp kt
+      by (Some Itself) l e w = answered a w.0 w.1 l Itself e
+      by (Some (Inside i)) l e w = answered i w.0 w.1 l (Inside i) e
+      by (Some Apart) l e w = mate_inserted o l e w m.stands m.keeps ps ss kp kt
 
       go : (a < length ks) ⊎ (length ks ≤ a) → Performed (state_by ks ps ss) mating (numberTold (accepted o)) (state_by ms ps ss)
       go (inl l) = by (mate_case (node_at ks a)) l refl (m.known l)
