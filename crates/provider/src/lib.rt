@@ -6,10 +6,12 @@
 
 #![tactic(auto)]
 
-ghost use Rattle.std.specs.Prelude.{◌≡◌, ℕ};
+ghost use Rattle.std.specs.Prelude.{◌≡◌, ℕ, Result};
 ghost use Rattle.provider.specs.Algebra.{Algebra, Halves, Mates, Seals, Builds};
 ghost use Rattle.provider.specs.Meaning.{Meaning, Answers, Same, Unfit, Holds};
 ghost use Rattle.provider.specs.Reopening.{Reopened};
+ghost use Rattle.provider.specs.declared.Making.{Making};
+ghost use Rattle.provider.specs.declared.ProviderError.{ProviderError};
 ghost use Rattle.provider.specs.declared.Making.TheVariants.{Atom, Join, Left, Right, Seal, Open, Digest, Entry, Mate};
 
 // A number by which a provider knows a value. Any number may be asked about; only issued ones stand for a value.
@@ -55,32 +57,76 @@ pub trait Provider {
     // the issued handles with their values, and the makings that fit
     ghost meaning: { Self → Meaning value };
 
+    // the whole outcome of a making, which says more than its answer
+    ghost outcome: { Self → Making → Result ℕ ProviderError → Self → Type 0 };
+
+    // Carries out a making.
+    fn make(&mut self, making: Making) -> Result<Handle, ProviderError>
+        ensures answers { Answers algebra meaning self.old making result self.new }
+        ensures outcome { outcome self.old making result self.new };
+
     fn atom(&mut self, kind: usize, id: usize) -> Result<Handle, ProviderError>
-        ensures { Answers algebra meaning self.old (Atom kind id) result self.new };
+        ensures answers { Answers algebra meaning self.old (Atom kind id) result self.new }
+        ensures outcome { outcome self.old (Atom kind id) result self.new }
+    {
+        self.make(Making::Atom(kind, id))
+    }
 
     fn join(&mut self, left: Handle, right: Handle) -> Result<Handle, ProviderError>
-        ensures { Answers algebra meaning self.old (Join left right) result self.new };
+        ensures answers { Answers algebra meaning self.old (Join left right) result self.new }
+        ensures outcome { outcome self.old (Join left right) result self.new }
+    {
+        self.make(Making::Join(left, right))
+    }
 
     fn left(&mut self, joined: Handle) -> Result<Handle, ProviderError>
-        ensures { Answers algebra meaning self.old (Left joined) result self.new };
+        ensures answers { Answers algebra meaning self.old (Left joined) result self.new }
+        ensures outcome { outcome self.old (Left joined) result self.new }
+    {
+        self.make(Making::Left(joined))
+    }
 
     fn right(&mut self, joined: Handle) -> Result<Handle, ProviderError>
-        ensures { Answers algebra meaning self.old (Right joined) result self.new };
+        ensures answers { Answers algebra meaning self.old (Right joined) result self.new }
+        ensures outcome { outcome self.old (Right joined) result self.new }
+    {
+        self.make(Making::Right(joined))
+    }
 
     fn seal(&mut self, content: Handle, key: Handle) -> Result<Handle, ProviderError>
-        ensures { Answers algebra meaning self.old (Seal content key) result self.new };
+        ensures answers { Answers algebra meaning self.old (Seal content key) result self.new }
+        ensures outcome { outcome self.old (Seal content key) result self.new }
+    {
+        self.make(Making::Seal(content, key))
+    }
 
     fn open(&mut self, sealed: Handle, opener: Handle) -> Result<Handle, ProviderError>
-        ensures { Answers algebra meaning self.old (Open sealed opener) result self.new };
+        ensures answers { Answers algebra meaning self.old (Open sealed opener) result self.new }
+        ensures outcome { outcome self.old (Open sealed opener) result self.new }
+    {
+        self.make(Making::Open(sealed, opener))
+    }
 
     fn digest(&mut self, function: Handle, operand: Handle) -> Result<Handle, ProviderError>
-        ensures { Answers algebra meaning self.old (Digest function operand) result self.new };
+        ensures answers { Answers algebra meaning self.old (Digest function operand) result self.new }
+        ensures outcome { outcome self.old (Digest function operand) result self.new }
+    {
+        self.make(Making::Digest(function, operand))
+    }
 
     fn entry(&mut self, table: Handle, party: Handle) -> Result<Handle, ProviderError>
-        ensures { Answers algebra meaning self.old (Entry table party) result self.new };
+        ensures answers { Answers algebra meaning self.old (Entry table party) result self.new }
+        ensures outcome { outcome self.old (Entry table party) result self.new }
+    {
+        self.make(Making::Entry(table, party))
+    }
 
     fn mate(&mut self, key: Handle) -> Result<Handle, ProviderError>
-        ensures { Answers algebra meaning self.old (Mate key) result self.new };
+        ensures answers { Answers algebra meaning self.old (Mate key) result self.new }
+        ensures outcome { outcome self.old (Mate key) result self.new }
+    {
+        self.make(Making::Mate(key))
+    }
 
     // Whether two handles stand for one value.
     fn same(&self, a: Handle, b: Handle) -> bool
@@ -107,17 +153,7 @@ pub trait Provider {
 pub fn perform<P: Provider>(provider: &mut P, making: Making) -> Result<Handle, ProviderError>
     ensures { Answers P.algebra P.meaning provider.old making result provider.new }
 {
-    match making {
-        Making::Atom(kind, id) => provider.atom(kind, id),
-        Making::Join(left, right) => provider.join(left, right),
-        Making::Left(joined) => provider.left(joined),
-        Making::Right(joined) => provider.right(joined),
-        Making::Seal(content, key) => provider.seal(content, key),
-        Making::Open(sealed, opener) => provider.open(sealed, opener),
-        Making::Digest(function, operand) => provider.digest(function, operand),
-        Making::Entry(table, party) => provider.entry(table, party),
-        Making::Mate(key) => provider.mate(key),
-    }
+    provider.make(making)
 }
 
 // Seals a content under a key, makes the key's mate and opens with it.

@@ -58,6 +58,8 @@ impl Provider for SymbolicProvider {
 
     ghost meaning = { meaning_of };
 
+    ghost outcome = { Outcome };
+
     ghost holds = { Laws.holds };
 
     ghost unfit = { Prim.search rules };
@@ -70,67 +72,8 @@ impl Provider for SymbolicProvider {
 
     ghost builds = { Prim.search rules };
 
-    fn atom(&mut self, kind: usize, id: usize) -> Result<Handle, ProviderError>
-        ensures answers { Answers term_algebra meaning_of self.old (Atom kind id) result self.new }
-        ensures outcome { Outcome self.old (Atom kind id) result self.new }
-    {
-        self.make(Making::Atom(kind, id))
-    }
-
-    fn join(&mut self, left: Handle, right: Handle) -> Result<Handle, ProviderError>
-        ensures answers { Answers term_algebra meaning_of self.old (Join left right) result self.new }
-        ensures outcome { Outcome self.old (Join left right) result self.new }
-    {
-        self.make(Making::Join(left, right))
-    }
-
-    fn left(&mut self, joined: Handle) -> Result<Handle, ProviderError>
-        ensures answers { Answers term_algebra meaning_of self.old (Left joined) result self.new }
-        ensures outcome { Outcome self.old (Left joined) result self.new }
-    {
-        self.make(Making::Left(joined))
-    }
-
-    fn right(&mut self, joined: Handle) -> Result<Handle, ProviderError>
-        ensures answers { Answers term_algebra meaning_of self.old (Right joined) result self.new }
-        ensures outcome { Outcome self.old (Right joined) result self.new }
-    {
-        self.make(Making::Right(joined))
-    }
-
-    fn seal(&mut self, content: Handle, key: Handle) -> Result<Handle, ProviderError>
-        ensures answers { Answers term_algebra meaning_of self.old (Seal content key) result self.new }
-        ensures outcome { Outcome self.old (Seal content key) result self.new }
-    {
-        self.make(Making::Seal(content, key))
-    }
-
-    fn open(&mut self, sealed: Handle, opener: Handle) -> Result<Handle, ProviderError>
-        ensures answers { Answers term_algebra meaning_of self.old (Open sealed opener) result self.new }
-        ensures outcome { Outcome self.old (Open sealed opener) result self.new }
-    {
-        self.make(Making::Open(sealed, opener))
-    }
-
-    fn digest(&mut self, function: Handle, operand: Handle) -> Result<Handle, ProviderError>
-        ensures answers { Answers term_algebra meaning_of self.old (Digest function operand) result self.new }
-        ensures outcome { Outcome self.old (Digest function operand) result self.new }
-    {
-        self.make(Making::Digest(function, operand))
-    }
-
-    fn entry(&mut self, table: Handle, party: Handle) -> Result<Handle, ProviderError>
-        ensures answers { Answers term_algebra meaning_of self.old (Entry table party) result self.new }
-        ensures outcome { Outcome self.old (Entry table party) result self.new }
-    {
-        self.make(Making::Entry(table, party))
-    }
-
-    fn mate(&mut self, key: Handle) -> Result<Handle, ProviderError>
-        ensures answers { Answers term_algebra meaning_of self.old (Mate key) result self.new }
-        ensures outcome { Outcome self.old (Mate key) result self.new }
-    {
-        self.make(Making::Mate(key))
+    fn make(&mut self, making: Making) -> Result<Handle, ProviderError> {
+        self.make(making)
     }
 
     fn same(&self, a: Handle, b: Handle) -> bool
