@@ -1,5 +1,5 @@
-pub mod Reading
 pub mod Loops
 pub mod Writing
 pub mod Planning
 pub mod Storing
+pub mod Sums

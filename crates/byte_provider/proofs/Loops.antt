@@ -1,39 +1,10 @@
 -- One turn of each loop over the bytes of a span.
 use Rattle.std.proofs.Common.{◌≡◌, ℕ, suc, ◌+◌, ◌%◌, ◌<◌, ◌≤◌, List, [], ◌∷◌, ◌++◌, length, get_or, take, drop, set, sym, refl, ap, ◌∙◌, append_assoc, add-one, arith, length-take, drop-cons}
-use lib.Seq.{set_at}
 use Rattle.byte_provider.specs.declared.span.Span.{Span}
 use Rattle.byte_provider.specs.declared.plan.Shift.{Shift}
 use Rattle.byte_provider.specs.Held.{part, Inside}
-use Rattle.byte_provider.specs.Values.{total, shift, shifted}
+use Rattle.byte_provider.specs.Values.{shift, shifted}
 use Rattle.byte_provider.specs.Parts.{length_part, part_more, part_get}
-use Rattle.byte_provider.proofs.Reading.{total_more}
-
-module _ (xs : List ℕ) (p : Span) (i : ℕ) (within : Inside xs p) (l : i < p.len) where
-  pub sum_more : (s b : ℕ) → s ≡ total (take i (part xs p)) % 256 → b ≡ get_or xs (p.start + i) 0 → (s + b) % 256 ≡ total (take (i + 1) (part xs p)) % 256
-  sum_more s b es eb =
-      let t = ap total (part_more xs p i within l) ∙ total_more (take i (part xs p)) (get_or xs (p.start + i) 0) in
-      omega (arith, t, es, eb)
-
-  pub fill_more : (out old : List ℕ) (b : ℕ) → p.len ≤ length old → out ≡ take i (part xs p) ++ drop i old → b ≡ get_or xs (p.start + i) 0 → set out i b ≡ take (i + 1) (part xs p) ++ drop (i + 1) old
-  fill_more out old b h e eb =
-      let n : length (take i (part xs p)) ≡ i = omega (arith, length-take i (part xs p), length_part xs p within) in
-      let o : i < length old = omega arith in
-      ap (λ v. set v i b) (e ∙ ap (λ v. take i (part xs p) ++ v) (drop-cons old i 0 o))
-      ∙ set_at (take i (part xs p)) (get_or old i 0) (drop (suc i) old) b i n
-      ∙ ap (λ v. take i (part xs p) ++ (b ∷ v)) (ap (λ k. drop k old) (sym (add-one i)))
-      ∙ sym (append_assoc (take i (part xs p)) (b ∷ []) (drop (i + 1) old))
-      ∙ ap (λ v. v ++ drop (i + 1) old) (ap (λ v. take i (part xs p) ++ (v ∷ [])) eb ∙ sym (part_more xs p i within l))
-
-  module _ (q : Span) (inside : Inside xs q) (len : p.len ≡ q.len) where
-    pub equal_more : take i (part xs p) ≡ take i (part xs q) → get_or xs (p.start + i) 0 ≡ get_or xs (q.start + i) 0 → take (i + 1) (part xs p) ≡ take (i + 1) (part xs q)
-    equal_more e d =
-        let m : i < q.len = omega arith in
-        part_more xs p i within l ∙ ap (λ v. v ++ (get_or xs (p.start + i) 0 ∷ [])) e ∙ ap (λ v. take i (part xs q) ++ (v ∷ [])) d ∙ sym (part_more xs q i inside m)
-
-    pub differ : (get_or xs (p.start + i) 0 ≡ get_or xs (q.start + i) 0 → ⊥) → part xs p ≡ part xs q → ⊥
-    differ d e =
-        let m : i < q.len = omega arith in
-        d (sym (part_get xs p i l) ∙ ap (λ v. get_or v i 0) e ∙ part_get xs q i m)
 
 -- one byte more is shifted
 shifted_more : (w : Shift) (body : List ℕ) (n x : ℕ) (xs : List ℕ) → shifted w body n (xs ++ (x ∷ [])) ≡ shifted w body n xs ++ (shift w x (get_or body ((n + length xs) % length body) 0) ∷ [])

@@ -1,6 +1,11 @@
 -- Each plan writes the value of its making.
-use Rattle.std.proofs.Common.{◌≡◌, ℕ, ◌+◌, ◌-◌, ◌*◌, ◌<◌, ◌≤◌, Bool, true, false, cond, leb, List, [], ◌∷◌, length, take, drop, is_some, Some, None, sym, refl, ap, ◌∙◌, ap₂, append-nil, arith, drop-drop, leb-true}
+use Rattle.std.proofs.Common.{◌≡◌, ℕ, ◌+◌, ◌-◌, ◌*◌, ◌<◌, ◌≤◌, Bool, true, false, cond, leb, List, [], ◌∷◌, length, take, drop, is_some, Some, None, Option, sym, refl, ap, ◌∙◌, ap₂, ⊎_elim, append-nil, arith, drop-drop, leb-true}
 use mathlib.Core.Bool.{false≢true}
+use Rattle.std.specs.Prelude.{slice_get}
+use Rattle.std.proofs.lemmas.Bool.{cases_lt}
+use Rattle.std.proofs.lemmas.Option.{slice_get_past, slice_get-get_or}
+use Rattle.bounded.specs.Items.{items}
+use Rattle.byte_provider.specs.Issued.{stands_in, stands_out}
 use Rattle.provider.specs.declared.Making.{Making}
 use Rattle.provider.specs.declared.Making.TheVariants.{Join, Left, Right, Mate}
 use Rattle.provider.specs.Meaning.{stands, on}
@@ -13,10 +18,21 @@ use Rattle.byte_provider.specs.declared.plan.Head.TheVariants.{One}
 use Rattle.byte_provider.specs.declared.plan.Plan.TheVariants.{Copied, Shifted, Part}
 use Rattle.byte_provider.specs.Held.{part, Inside, no_span}
 use Rattle.byte_provider.specs.Plans.{head_bytes, length_bytes, HeadFits}
-use Rattle.byte_provider.specs.Planned.{Lies, PlanFor}
-use Rattle.byte_provider.specs.State.{bytes_of, issued_of, made_of, stored}
+use Rattle.byte_provider.specs.Planned.{IsKey, Lies, Located, PlanFor}
+use Rattle.byte_provider.specs.State.{bytes_of, count_of, issued_of, made_of, stored}
 use Rattle.byte_provider.specs.Values.{left_size, key_type, shifted, mate_first, body}
 use Rattle.byte_provider.specs.Parts.{length_part, part_part, part_rest}
+
+-- a handle lies where its place among the spans says
+pub located : (s : ByteProvider) (h : ℕ) → Located s h (slice_get (items s.spans) h)
+located s h =
+    let xs = bytes_of s in
+    let spans = items s.spans in
+    ⊎_elim
+    (λ (l : h < count_of s).
+    rw (slice_get-get_or spans h no_span l) (record { value = stands_in xs spans (count_of s) h l; within = s.within h no_span l }))
+    (λ (g : count_of s ≤ h). rw (slice_get_past spans h g) (stands_out xs spans (count_of s) h g))
+    (cases_lt h (count_of s))
 
 -- a left part is no longer than what follows the two length bytes
 left_fits : (x : List ℕ) (n : ℕ) → Some n ≡ left_size x → 2 + n ≤ length x
@@ -66,28 +82,40 @@ module _ (s : ByteProvider) (a n : ℕ) (p : Span) (la : Lies s a p) (e : Some n
         adds = refl;
       }
 
--- the body of a key that lies in a span
+-- a key that lies in a span
 module _ (s : ByteProvider) (k : ℕ) (q b : Span) (t : KeyType) (lk : Lies s k q) (e : Some t ≡ key_type (part (bytes_of s) q)) (eb : b ≡ record { start = q.start + 1; len = q.len - 1 }) where
-  key_len : 2 ≤ q.len
+  pub key_len : 2 ≤ q.len
   key_len = omega (arith, key_fits (part (bytes_of s) q) t e, length_part (bytes_of s) q lk.within)
 
-  body_is : body (part (bytes_of s) q) ≡ part (bytes_of s) b
-  body_is = part_rest (bytes_of s) q 1 lk.within (let h = key_len in omega (arith, h)) ∙ ap (part (bytes_of s)) (sym eb)
+  pub is_key : IsKey s k t b
+  is_key =
+      let h = key_len in
+      record {
+        value = part (bytes_of s) q;
+        is = lk.value;
+        kind = sym e;
+        rest = part_rest (bytes_of s) q 1 lk.within (omega (arith, h)) ∙ ap (part (bytes_of s)) (sym eb);
+        within = rw eb (omega (arith, h, lk.within));
+        some = rw eb (omega (arith, h));
+      }
 
-  body_inside : Inside (bytes_of s) b × (0 < b.len)
-  body_inside = let h = key_len in rw eb (omega (arith, h, lk.within), omega (arith, h))
+-- what is no key has no body to shift by
+pub no_key : {X : Type 0} (o : Option (List ℕ)) (f : List ℕ → KeyType → Option X) → on o key_type ≡ None → on o (λ y. on (key_type y) (f y)) ≡ None
+no_key None f e = refl
+no_key (Some y) f e = rw e refl
 
+module _ (s : ByteProvider) (k : ℕ) (t : KeyType) (b : Span) (key : IsKey s k t b) where
   -- sealing and opening alike, by the way that the key's type says
   pub shift_plan : (m : Making) (way : KeyType → Shift) (c : ℕ) (p : Span) (w : Shift) → made_of s m ≡ on (stands (issued_of s) c) (λ x. on (stands (issued_of s) k) (λ y. on (key_type y) (λ u. Some (shifted (way u) (body y) 0 x)))) → ((x : List ℕ) → stored m x ≡ x) → Lies s c p → w ≡ way t → PlanFor s m (Shifted w p b)
   shift_plan m way c p w em st lc ew = record {
-    makes = em ∙ rw (lc.value, lk.value, ← e, ew) (ap (λ z. Some (shifted (way t) z 0 (part (bytes_of s) p))) body_is);
-    sound = (lc.within, body_inside.0, body_inside.1);
+    makes = em ∙ rw (lc.value, key.is, key.kind, ew) (ap (λ z. Some (shifted (way t) z 0 (part (bytes_of s) p))) key.rest);
+    sound = (lc.within, key.within, key.some);
     adds = st _;
   }
 
-  pub mate_plan : (f : ℕ) → f ≡ mate_first t → f < 256 → (z : Span) → z ≡ no_span → PlanFor s (Mate k) (Copied (One f) b z)
-  mate_plan f ef small z ez = record {
-    makes = rw (lk.value, ← e, ef, ez) (ap (λ v. Some (mate_first t ∷ v)) (body_is ∙ sym (append-nil (part (bytes_of s) b))));
-    sound = (body_inside.0, rw ez (omega arith), small);
+  pub mate_plan : (f : ℕ) → f ≡ mate_first t → f < 256 → PlanFor s (Mate k) (Copied (One f) b no_span)
+  mate_plan f ef small = record {
+    makes = rw (key.is, key.kind, ef) (ap (λ v. Some (mate_first t ∷ v)) (key.rest ∙ sym (append-nil (part (bytes_of s) b))));
+    sound = (key.within, omega arith, small);
     adds = refl;
   }

@@ -1,6 +1,9 @@
 -- How the bytes in use grow.
-use Rattle.std.proofs.Common.{◌≡◌, ℕ, ◌+◌, ◌-◌, ◌<◌, ◌≤◌, List, [], ◌∷◌, ◌++◌, length, get_or, take, set, sym, ap, ◌∙◌, ap₂, append_assoc, arith, length-append, length-take, length-take-le, get_or-take}
-use Rattle.std.proofs.lemmas.List.{take_more_set, get_or_append_left}
+use Rattle.std.specs.List.{copy_within}
+use Rattle.std.proofs.Common.{◌≡◌, ℕ, ◌+◌, ◌-◌, ◌<◌, ◌≤◌, replicate, ⊎_elim, List, [], ◌∷◌, ◌++◌, length, get_or, take, set, sym, ap, ◌∙◌, ap₂, append_assoc, arith, drop, length-append, length-drop, length-take, length-take-le, get_or-take}
+use Rattle.std.proofs.lemmas.Bool.{cases_lt}
+use Rattle.std.proofs.lemmas.List.{take_more_set, get_or_append_left, get_or_past, get_or-replicate, length-replicate}
+use Rattle.std.proofs.lemmas.List.Edits.{take-paste}
 use Rattle.byte_provider.specs.declared.table.Table.{Table}
 use Rattle.byte_provider.specs.declared.span.Span.{Span}
 use Rattle.byte_provider.specs.declared.plan.Head.{Head}
@@ -10,11 +13,27 @@ use Rattle.byte_provider.specs.declared.plan.Plan.TheVariants.{Copied, Shifted}
 use Rattle.byte_provider.specs.Held.{held, part, Inside}
 use Rattle.byte_provider.specs.Plans.{head_bytes, written, added, Sound}
 use Rattle.byte_provider.specs.Writing.{Added, Written}
-use Rattle.byte_provider.specs.Parts.{length_part, part_front, part_end}
+use Rattle.byte_provider.specs.Parts.{length_part, part_front, part_end, part_part}
 use Rattle.byte_provider.proofs.Loops.{length_shifted}
 
 abbrev span : ℕ → ℕ → Span
 span a b = record { start = a; len = b }
+
+-- zeros are bytes
+pub zeros_small : (n k : ℕ) → get_or (replicate n 0) k 0 < 256
+zeros_small n k =
+    ⊎_elim
+    (λ (l : k < n). rw (get_or-replicate {A = ℕ} n k 0 0 l) (omega arith))
+    (λ (l : n ≤ k). rw (get_or_past {X = ℕ} (replicate n 0) k 0 (omega (arith, length-replicate {A = ℕ}))) (omega arith))
+    (cases_lt k n)
+
+-- a part that is copied behind the bytes in use
+pub copied_to : (xs : List ℕ) (n : ℕ) (p : Span) → Inside (take n xs) p → n ≤ length xs → take (n + p.len) (copy_within xs p.start (p.start + p.len) n) ≡ take n xs ++ part (take n xs) p
+copied_to xs n p h l =
+    let m : (p.start + p.len) - p.start ≡ p.len = omega arith in
+    let d : p.len ≤ length (drop p.start xs) = omega (arith, length-take n xs, length-drop p.start xs) in
+    let e : part (take n xs) p ≡ part xs p = part_part xs (record { start = 0; len = n }) p.start p.len (omega (arith, length-take n xs)) ∙ ap (λ k. part xs (record { start = k; len = p.len })) (omega arith) in
+    rw m (take-paste xs n (drop p.start xs) p.len l d ∙ ap (λ v. take n xs ++ v) (sym e))
 
 pub added_more : (t t1 t2 : Table) (ys zs : List ℕ) → Added t ys t1 → Added t1 zs t2 → Added t (ys ++ zs) t2
 added_more t t1 t2 ys zs a b = record {

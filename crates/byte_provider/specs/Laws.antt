@@ -2,6 +2,7 @@
 use Rattle.std.specs.Prelude.{◌≡◌, ℕ, zero, suc, ◌+◌, ◌*◌, ◌/◌, ◌%◌, ◌<◌, ◌≤◌, Bool, true, false, cond, List, [], ◌∷◌, ◌++◌, length, is_some, Some, None, Option, ◌==◌, nat_le, slice_index, slice_index_or, refl}
 use Rattle.std.proofs.Common.{sym, ap, ap₂, ◌∙◌, arith, length-append, length-take, take_at, drop_at, eqb-true, le-leb}
 use Rattle.std.proofs.lemmas.Bool.{false≢true}
+use Rattle.bounded.specs.Items.{items}
 use Rattle.provider.specs.Algebra.{Halves, Key, shared, public, listed, mated, Mates, Seals}
 use Rattle.provider.specs.Meaning.{on, Holds}
 use Rattle.byte_provider.specs.declared.store.ByteProvider.{ByteProvider}
@@ -170,11 +171,14 @@ seals = record {
 -- every handle stands for bytes
 pub holds : (s : ByteProvider) → Holds Bytes (meaning_of s)
 holds s h x e =
-    let l = below (bytes_of s) s.spans s.count h x e in
-    let p = slice_index_or s.spans h no_span in
-    let q : Some (part (bytes_of s) p) ≡ Some x = sym (stands_in (bytes_of s) s.spans s.count h l) ∙ e in
-    let v : part (bytes_of s) p ≡ x = cc in
+    let xs = bytes_of s in
+    let spans = items s.spans in
+    let l = below xs spans (length spans) h x e in
+    let p = slice_index_or spans h no_span in
+    let q : Some (part xs p) ≡ Some x = sym (stands_in xs spans (length spans) h l) ∙ e in
+    let v : part xs p ≡ x = cc in
+    let t = s.table in
     record {
-      short = rw (← v) (omega (arith, length_part (bytes_of s) p (s.within h l), s.within h l, length-take s.table.used s.table.bytes, s.fits));
-      small = rw (← v) (small_part (bytes_of s) p s.small);
+      short = rw (← v) (omega (arith, length_part xs p (s.within h no_span l), s.within h no_span l, length-take t.used t.bytes, t.fits));
+      small = rw (← v) (small_part xs p (small_part t.bytes (record { start = 0; len = t.used }) t.small));
     }

@@ -1,7 +1,7 @@
 -- What reading a value into a lent slice does.
 use Rattle.std.specs.Prelude.{◌≡◌, ℕ, ◌<◌, ◌≤◌, List, ◌++◌, length, drop, Some, None, Ok, Err, Option, Result}
-use Rattle.byte_provider.specs.declared.table.ReadError.{ReadError}
-use Rattle.byte_provider.specs.declared.table.ReadError.TheVariants.{Unissued, Short}
+use Rattle.byte_provider.specs.declared.store.ReadError.{ReadError}
+use Rattle.byte_provider.specs.declared.store.ReadError.TheVariants.{Unissued, Short}
 
 -- the value stands at the front of the slice, whose rest is as before; nothing is written into one that is too short
 abbrev pub ReadsValue : List ℕ → List ℕ → Result ℕ ReadError → List ℕ → Type 0

@@ -1,5 +1,6 @@
 -- What the byte provider means.
 use Rattle.std.specs.Prelude.{ℕ, zero, suc, ◌-◌, Bool, false, ◌&&◌, List, [], ◌∷◌, length, Some, None, Option, nat_le, nat_lt, slice_index_or}
+use Rattle.bounded.specs.Items.{items}
 use Rattle.provider.specs.declared.Making.{Making}
 use Rattle.provider.specs.declared.Making.TheVariants.{Atom, Join, Left, Right, Seal, Open, Digest, Entry, Mate}
 use Rattle.provider.specs.Meaning.{Meaning, made}
@@ -19,8 +20,12 @@ abbrev pub issued_below : List ℕ → List Span → ℕ → List (ℕ × List �
 issued_below xs spans zero = []
 issued_below xs spans (suc n) = (n, part xs (slice_index_or spans n no_span)) ∷ issued_below xs spans n
 
+-- how many handles are issued
+abbrev pub count_of : ByteProvider → ℕ
+count_of s = length (items s.spans)
+
 abbrev pub issued_of : ByteProvider → List (ℕ × List ℕ)
-issued_of s = issued_below (bytes_of s) s.spans s.count
+issued_of s = issued_below (bytes_of s) (items s.spans) (count_of s)
 
 -- the bytes that a making takes for the value that it makes: halves stay where they are
 abbrev pub stored : Making → List ℕ → List ℕ
@@ -36,7 +41,7 @@ stored (Mate k) x = x
 
 -- a handle and n bytes are free
 abbrev pub free : ByteProvider → ℕ → Bool
-free s n = nat_lt s.count 4096 && nat_le n (32768 - length (bytes_of s))
+free s n = nat_lt (count_of s) 4096 && nat_le n (32768 - length (bytes_of s))
 
 -- room for the value that a making makes; none for what is wrong
 abbrev pub room : ByteProvider → Making → Option (List ℕ) → Bool

@@ -1,5 +1,5 @@
 -- The values of the byte provider, strings of bytes, and what the makings make of them.
-use Rattle.std.specs.Prelude.{ℕ, ◌+◌, ◌-◌, ◌*◌, ◌/◌, ◌%◌, ◌<◌, ◌≤◌, cond, List, [], ◌∷◌, ◌++◌, length, take, drop, Some, None, Option, ◌==◌, nat_le, slice_index}
+use Rattle.std.specs.Prelude.{ℕ, ◌+◌, ◌-◌, ◌*◌, ◌/◌, ◌%◌, ◌<◌, ◌≤◌, cond, List, [], ◌∷◌, ◌++◌, length, take, drop, Some, None, Option, ◌==◌, nat_le, slice_index, sum}
 use Rattle.provider.specs.Algebra.{Algebra}
 use Rattle.provider.specs.Meaning.{on}
 use Rattle.byte_provider.specs.declared.plan.KeyType.{KeyType}
@@ -79,13 +79,9 @@ seal_of c k = on (key_type k) (λ t. Some (shifted (sealing t) (body k) 0 c))
 abbrev pub open_of : List ℕ → List ℕ → Option (List ℕ)
 open_of s o = on (key_type o) (λ t. Some (shifted (opening t) (body o) 0 s))
 
-abbrev pub total : List ℕ → ℕ
-total [] = 0
-total (x ∷ xs) = x + total xs
-
 -- one byte: the sum of all bytes of both
 abbrev pub digest_of : List ℕ → List ℕ → List ℕ
-digest_of f t = ((total f + total t) % 256) ∷ []
+digest_of f t = ((sum f + sum t) % 256) ∷ []
 
 -- byte 3, then the table's bytes and the party's
 abbrev pub entry_of : List ℕ → List ℕ → List ℕ

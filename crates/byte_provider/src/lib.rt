@@ -12,9 +12,9 @@ mod plan;
 mod span;
 mod store;
 mod table;
+mod value;
 
-pub use store::ByteProvider;
-pub use table::ReadError;
+pub use store::{ByteProvider, ReadError};
 
 // Bytes 250 255 sealed under 2 0 7 are 250 6, and these open under it to 250 255.
 pub fn sealed_example()

@@ -75,8 +75,8 @@ impl Shift {
         ensures { result ≡ shift self x by }
     {
         match self {
-            Shift::Add => ((x as usize + by as usize) % 256) as u8,
-            Shift::Subtract => ((x as usize + (256 - by as usize)) % 256) as u8,
+            Shift::Add => x.wrapping_add(by),
+            Shift::Subtract => x.wrapping_sub(by),
         }
     }
 }

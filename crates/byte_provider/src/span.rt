@@ -1,6 +1,5 @@
 // Which bytes of the table a value is.
 ghost use Rattle.std.specs.Prelude.{◌≡◌, ◌+◌, ◌-◌, ◌≤◌};
-ghost use Rattle.byte_provider.specs.Held.{no_span};
 
 #[derive(Clone, Copy)]
 pub(crate) struct Span {
@@ -10,11 +9,7 @@ pub(crate) struct Span {
 
 impl Span {
     // No bytes at all.
-    pub(crate) fn none() -> Self
-        ensures { result ≡ no_span }
-    {
-        Span { start: 0, len: 0 }
-    }
+    pub(crate) const NONE: Self = Span { start: 0, len: 0 };
 
     // All but the first byte.
     pub(crate) fn body(self) -> Self

@@ -1,9 +1,11 @@
 // The provider's state: the bytes in use, and where the value of each issued handle lies in them.
-ghost use Rattle.std.specs.Prelude.{◌≡◌, ℕ, ◌+◌, ◌<◌, ◌≤◌, length, slice_index, slice_index_or};
-ghost use Rattle.byte_provider.specs.Held.{held, no_span};
+ghost use Rattle.std.specs.Prelude.{All};
+ghost use Rattle.bounded.specs.Items.{items};
+ghost use Rattle.byte_provider.specs.Held.{held, Inside};
 
 use crate::span::Span;
 use crate::table::Table;
+use bounded::BoundedVec;
 
 mod calls;
 mod planning;
@@ -11,12 +13,13 @@ mod planning;
 #[derive(Drop)]
 pub struct ByteProvider {
     table: Table,
-    spans: [Span; 4096],
-    count: usize,
-    ghost fits: { table.used ≤ 32768 },
-    ghost filled: { length (held table) ≡ table.used },
-    ghost small: { (k : ℕ) → slice_index (held table) k < 256 },
-    ghost places: { length spans ≡ 4096 },
-    ghost few: { count ≤ 4096 },
-    ghost within: { (k : ℕ) → k < count → (slice_index_or spans k no_span).start + (slice_index_or spans k no_span).len ≤ length (held table) },
+    spans: BoundedVec<Span, 4096>,
+    ghost within: { All (Inside (held table)) (items spans) },
+}
+
+// Why the bytes of a handle were not read: it was never issued, or the slice is too short for them.
+#[derive(Clone, Copy, PartialEq, Eq, Debug)]
+pub enum ReadError {
+    Unissued,
+    Short,
 }

@@ -1,4 +1,6 @@
 // The bytes of the provider, one after another; those below `used` are in use.
+ghost use Rattle.std.specs.Prelude.{◌≡◌, ℕ, ◌<◌, ◌≤◌, length, slice_index};
+
 mod read;
 mod write;
 
@@ -6,11 +8,7 @@ mod write;
 pub(crate) struct Table {
     bytes: [u8; 32768],
     used: usize,
-}
-
-// Why the bytes of a handle were not read: it was never issued, or the slice is too short for them.
-#[derive(Clone, Copy, PartialEq, Eq, Debug)]
-pub enum ReadError {
-    Unissued,
-    Short,
+    ghost fits: { used ≤ 32768 },
+    ghost places: { length bytes ≡ 32768 },
+    ghost small: { (k : ℕ) → slice_index bytes k < 256 },
 }

@@ -1,7 +1,6 @@
 // The calls of the provider.
 ghost use Rattle.std.specs.Prelude.{◌≡◌, ℕ, true, List, length, Ok};
-ghost use Rattle.provider.specs.Meaning.{Answers, Same, stands};
-ghost use Rattle.provider.specs.declared.Making.TheVariants.{Atom, Join, Left, Right, Seal, Open, Digest, Entry, Mate};
+ghost use Rattle.provider.specs.Meaning.{Same, stands};
 ghost use Rattle.byte_provider.specs.Outcome.{Blank, Done, Outcome};
 ghost use Rattle.byte_provider.specs.Planned.{PlanFor};
 ghost use Rattle.byte_provider.specs.Plans.{Sound, added};
@@ -11,10 +10,11 @@ ghost use Rattle.byte_provider.specs.Values.{Bytes, byte_algebra};
 ghost use Rattle.byte_provider.specs.Laws;
 ghost use Rattle.std.proofs.Common.{rules, arith};
 
-use super::ByteProvider;
+use super::{ByteProvider, ReadError};
 use crate::plan::Plan;
 use crate::span::Span;
-use crate::table::{ReadError, Table};
+use crate::table::Table;
+use bounded::BoundedVec;
 use provider::{Handle, Making, Provider, ProviderError};
 
 impl ByteProvider {
@@ -24,8 +24,7 @@ impl ByteProvider {
     {
         ByteProvider {
             table: Table::blank(),
-            spans: [Span { start: 0, len: 0 }; 4096],
-            count: 0,
+            spans: BoundedVec::new(Span::NONE),
         }
     }
 
@@ -46,7 +45,7 @@ impl ByteProvider {
         requires { Sound (bytes_of self.now) plan }
         ensures { result ≡ has_room self.now plan }
     {
-        self.count < 4096 && self.size(plan) <= 32768 - self.table.used()
+        self.spans.len() < 4096 && self.size(plan) <= 32768 - self.table.used()
     }
 
     // Writes what a plan adds and issues the next handle for its value.
@@ -55,31 +54,29 @@ impl ByteProvider {
         ensures { (m : Making) → PlanFor self.old m plan → Done self.old m (Ok result) self.new }
     {
         let span = self.table.write(plan);
-        let handle = self.count;
-        self.spans[handle] = span;
-        self.count = handle + 1;
-        handle
+        self.spans.push(span).unwrap()
     }
 
     // Whether two handles stand for one value.
     fn equals(&self, a: Handle, b: Handle) -> bool
         ensures { Same (issued_of self.now) a b result }
     {
-        match (self.span(a), self.span(b)) {
-            (Some(p), Some(q)) => p.len == q.len && self.table.equal(p, q),
-            (None, _) => false,
-            (Some(_), None) => false,
-        }
+        let (Some(one), Some(other)) = (self.value(a), self.value(b)) else {
+            return false;
+        };
+        one == other
     }
 
     // Copies the bytes of a handle to the front of a lent slice, and answers how many they are.
     pub fn read(&self, handle: Handle, out: &mut [u8]) -> Result<usize, ReadError>
         ensures { Reads (stands (issued_of self.now) handle) out.old result out.new }
     {
-        match self.span(handle) {
-            Some(span) => self.table.copy_out(span, out),
-            None => Err(ReadError::Unissued),
+        let value = self.value(handle).ok_or(ReadError::Unissued)?;
+        if value.len() > out.len() {
+            return Err(ReadError::Short);
         }
+        out[..value.len()].copy_from_slice(value);
+        Ok(value.len())
     }
 }
 
@@ -124,9 +121,7 @@ impl Provider for ByteProvider {
     fn fits(&self, making: Making) -> bool
         ensures { result ≡ fits_of self.now making }
     {
-        match self.plan(making) {
-            Some(plan) => self.has_room(plan),
-            None => false,
-        }
+        self.plan(making)
+            .is_some_and(|plan| self.has_room(plan))
     }
 }

@@ -1,24 +1,56 @@
 // Working out how a value is made, with nothing written.
-ghost use Rattle.std.specs.Prelude.{◌≡◌, ◌+◌, ◌-◌, ◌≤◌, length};
-ghost use Rattle.byte_provider.specs.Held.{Inside};
-ghost use Rattle.byte_provider.specs.Planned.{Located, Planned};
+ghost use Rattle.std.specs.Prelude.{◌≡◌};
+ghost use Rattle.std.specs.Option.{option_copied};
+ghost use Rattle.provider.specs.Meaning.{stands};
+ghost use Rattle.byte_provider.specs.Planned.{Halved, Keyed, Located, Planned};
+ghost use Rattle.byte_provider.specs.State.{issued_of};
 ghost use Rattle.provider.specs.declared.Making.TheVariants.{Atom, Join, Left, Right, Seal, Open, Digest, Entry, Mate};
 
 use super::ByteProvider;
-use crate::plan::{Head, Plan};
+use crate::plan::{Head, KeyType, Plan};
 use crate::span::Span;
+use crate::value::{key_type, left_len, sum};
 use provider::{Handle, Making};
 
 impl ByteProvider {
     // Where the value of a handle lies.
-    pub(super) fn span(&self, handle: Handle) -> Option<Span>
+    fn span(&self, handle: Handle) -> Option<Span>
         ensures { Located self.now handle result }
     {
-        if handle < self.count {
-            Some(self.spans[handle])
-        } else {
-            None
-        }
+        self.spans.get(handle)
+    }
+
+    // The bytes of a handle.
+    pub(super) fn value(&self, handle: Handle) -> Option<&[u8]>
+        ensures { option_copied result ≡ stands (issued_of self.now) handle }
+    {
+        Some(self.table.part(self.span(handle)?))
+    }
+
+    // Where the two parts of a joined value lie.
+    fn halves(&self, joined: Handle) -> Option<(Span, Span)>
+        ensures { Halved self.now joined result }
+    {
+        let pair = self.span(joined)?;
+        let len = left_len(self.table.part(pair))?;
+        let left = Span {
+            start: pair.start + 2,
+            len,
+        };
+        let right = Span {
+            start: left.start + len,
+            len: pair.len - 2 - len,
+        };
+        Some((left, right))
+    }
+
+    // The type of a key, and where its body lies.
+    fn key(&self, key: Handle) -> Option<(KeyType, Span)>
+        ensures { Keyed self.now key result }
+    {
+        let span = self.span(key)?;
+        let kind = key_type(self.table.part(span))?;
+        Some((kind, span.body()))
     }
 
     fn plan_atom(&self, kind: usize, id: usize) -> Option<Plan>
@@ -26,7 +58,7 @@ impl ByteProvider {
     {
         if kind <= 5 && id <= 65535 {
             let head = Head::Three(kind as u8, (id / 256) as u8, (id % 256) as u8);
-            Some(Plan::Copied(head, Span::none(), Span::none()))
+            Some(Plan::Copied(head, Span::NONE, Span::NONE))
         } else {
             None
         }
@@ -43,50 +75,40 @@ impl ByteProvider {
     fn plan_left(&self, joined: Handle) -> Option<Plan>
         ensures { Planned self.now (Left joined) result }
     {
-        let pair = self.span(joined)?;
-        let len = self.table.left_len(pair)?;
-        Some(Plan::Part(Span {
-            start: pair.start + 2,
-            len,
-        }))
+        let (left, _) = self.halves(joined)?;
+        Some(Plan::Part(left))
     }
 
     fn plan_right(&self, joined: Handle) -> Option<Plan>
         ensures { Planned self.now (Right joined) result }
     {
-        let pair = self.span(joined)?;
-        let len = self.table.left_len(pair)?;
-        Some(Plan::Part(Span {
-            start: pair.start + 2 + len,
-            len: pair.len - 2 - len,
-        }))
+        let (_, right) = self.halves(joined)?;
+        Some(Plan::Part(right))
     }
 
     fn plan_seal(&self, content: Handle, key: Handle) -> Option<Plan>
         ensures { Planned self.now (Seal content key) result }
     {
         let content = self.span(content)?;
-        let key = self.span(key)?;
-        let kind = self.table.key_type(key)?;
-        Some(Plan::Shifted(kind.sealing(), content, key.body()))
+        let (kind, body) = self.key(key)?;
+        Some(Plan::Shifted(kind.sealing(), content, body))
     }
 
     fn plan_open(&self, sealed: Handle, opener: Handle) -> Option<Plan>
         ensures { Planned self.now (Open sealed opener) result }
     {
         let sealed = self.span(sealed)?;
-        let opener = self.span(opener)?;
-        let kind = self.table.key_type(opener)?;
-        Some(Plan::Shifted(kind.opening(), sealed, opener.body()))
+        let (kind, body) = self.key(opener)?;
+        Some(Plan::Shifted(kind.opening(), sealed, body))
     }
 
     fn plan_digest(&self, function: Handle, operand: Handle) -> Option<Plan>
         ensures { Planned self.now (Digest function operand) result }
     {
-        let function = self.span(function)?;
-        let operand = self.span(operand)?;
-        let sum = self.table.sum(function) as usize + self.table.sum(operand) as usize;
-        Some(Plan::Copied(Head::One((sum % 256) as u8), Span::none(), Span::none()))
+        let function = self.value(function)?;
+        let operand = self.value(operand)?;
+        let sum = sum(function).wrapping_add(sum(operand));
+        Some(Plan::Copied(Head::One(sum), Span::NONE, Span::NONE))
     }
 
     fn plan_entry(&self, table: Handle, party: Handle) -> Option<Plan>
@@ -100,9 +122,8 @@ impl ByteProvider {
     fn plan_mate(&self, key: Handle) -> Option<Plan>
         ensures { Planned self.now (Mate key) result }
     {
-        let key = self.span(key)?;
-        let kind = self.table.key_type(key)?;
-        Some(Plan::Copied(Head::One(kind.mate_first()), key.body(), Span::none()))
+        let (kind, body) = self.key(key)?;
+        Some(Plan::Copied(Head::One(kind.mate_first()), body, Span::NONE))
     }
 
     // How a making's value is made; None where the making is wrong.

@@ -1,5 +1,5 @@
 // Adding bytes behind those in use.
-ghost use Rattle.std.specs.Prelude.{◌≡◌, ◌+◌, ◌-◌, ◌%◌, ◌<◌, ◌≤◌, [], ◌∷◌, ◌++◌, length};
+ghost use Rattle.std.specs.Prelude.{◌≡◌, ◌+◌, ◌-◌, ◌%◌, ◌<◌, ◌≤◌, [], ◌++◌, length};
 ghost use Rattle.byte_provider.specs.Held.{held, part, Inside};
 ghost use Rattle.byte_provider.specs.Plans.{head_bytes, Sound, added};
 ghost use Rattle.byte_provider.specs.Values.{shifted};
@@ -27,31 +27,24 @@ impl Table {
         }
     }
 
-    // One byte more.
-    pub(crate) fn put(&mut self, byte: u8)
-        requires { self.old.used < 32768 }
-        ensures { Added self.old (byte ∷ []) self.new }
+    // More bytes.
+    fn extend(&mut self, more: &[u8])
+        requires { self.old.used + length more.now ≤ 32768 }
+        ensures { Added self.old more.now self.new }
     {
-        let at = self.used;
-        self.bytes[at] = byte;
-        self.used = at + 1;
+        let end = self.used + more.len();
+        self.bytes[self.used..end].copy_from_slice(more);
+        self.used = end;
     }
 
-    fn put_head(&mut self, head: Head)
+    fn extend_head(&mut self, head: Head)
         requires { self.old.used + length (head_bytes head) ≤ 32768 }
         ensures { Added self.old (head_bytes head) self.new }
     {
         match head {
-            Head::One(a) => self.put(a),
-            Head::Two(a, b) => {
-                self.put(a);
-                self.put(b);
-            }
-            Head::Three(a, b, c) => {
-                self.put(a);
-                self.put(b);
-                self.put(c);
-            }
+            Head::One(a) => self.extend(&[a]),
+            Head::Two(a, b) => self.extend(&[a, b]),
+            Head::Three(a, b, c) => self.extend(&[a, b, c]),
         }
     }
 
@@ -60,11 +53,9 @@ impl Table {
         requires { (Inside (held self.old) span) × (self.old.used + span.len ≤ 32768) }
         ensures { Added self.old (part (held self.old) span) self.new }
     {
-        let at = self.used;
-        for i in 0..span.len {
-            self.bytes[at + i] = self.bytes[span.start + i];
-        }
-        self.used = at + span.len;
+        self.bytes
+            .copy_within(span.start..span.start + span.len, self.used);
+        self.used += span.len;
     }
 
     // A content's bytes once more, each shifted by the body's.
@@ -89,7 +80,7 @@ impl Table {
         requires { (Inside (held self.old) first) × ((Inside (held self.old) second) × (self.old.used + length (head_bytes head) + first.len + second.len ≤ 32768)) }
         ensures { Added self.old (head_bytes head ++ (part (held self.old) first ++ part (held self.old) second)) self.new }
     {
-        self.put_head(head);
+        self.extend_head(head);
         self.copy(first);
         self.copy(second);
     }
