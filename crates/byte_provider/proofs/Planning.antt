@@ -50,13 +50,6 @@ key_fits [] t e = absurd (false≢true (ap is_some (sym e)))
 key_fits (b ∷ []) t e = absurd (false≢true (ap is_some (sym e)))
 key_fits (b ∷ c ∷ cs) t e = omega arith
 
-pub join_plan : (s : ByteProvider) (a b : ℕ) (p q : Span) (h : Head) → Lies s a p → Lies s b q → head_bytes h ≡ length_bytes p.len → HeadFits h → PlanFor s (Join a b) (Copied h p q)
-join_plan s a b p q h la lb eh fits = record {
-  makes = rw (la.value, lb.value, eh, length_part (bytes_of s) p la.within) refl;
-  sound = (la.within, lb.within, fits);
-  adds = refl;
-}
-
 module _ (s : ByteProvider) (a n : ℕ) (p : Span) (la : Lies s a p) (e : Some n ≡ left_size (part (bytes_of s) p)) where
   pub half_fits : 2 + n ≤ p.len
   half_fits = omega (arith, left_fits (part (bytes_of s) p) n e, length_part (bytes_of s) p la.within)

@@ -65,19 +65,3 @@ module _ (s s' : ByteProvider) (plan : Plan) (p : Span) (w : Written s.table pla
       (ap (room s m) f.makes ∙ ap (λ v. free s (length v)) f.adds ∙ roomy)
       stored_issued
       (w.adds.bytes ∙ ap (λ v. bytes_of s ++ v) (sym f.adds))
-
--- how many bytes a plan adds
-module _ (xs : List ℕ) (plan : Plan) (sound : Sound xs plan) where
-  pub copied_size : (h : Head) (a b : Span) → plan ≡ Copied h a b → length (head_bytes h) + a.len + b.len ≡ length (added xs plan)
-  copied_size h a b e =
-      let s = rw e at sound in
-      rw e (omega (arith, length-append (head_bytes h) (part xs a ++ part xs b), length-append (part xs a) (part xs b), length_part xs a s.0, length_part xs b s.1))
-
-  pub shifted_size : (w : Shift) (c k : Span) → plan ≡ Shifted w c k → c.len ≡ length (added xs plan)
-  shifted_size w c k e =
-      let s = rw e at sound in
-      rw e (sym (length_shifted w (part xs k) 0 (part xs c) ∙ length_part xs c s.0))
-
-  -- each span of a sound plan is at most as long as the bytes in use
-  pub copied_bounds : (h : Head) (a b : Span) → plan ≡ Copied h a b → (a.len ≤ length xs) × (b.len ≤ length xs)
-  copied_bounds h a b e = let s = rw e at sound in (omega (arith, s.0), omega (arith, s.1))

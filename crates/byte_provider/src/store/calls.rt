@@ -29,6 +29,7 @@ impl ByteProvider {
     }
 
     // How many bytes a plan adds.
+    #[tactic(auto, using(crate::proofs::Loops::length_shifted, crate::specs::Parts::length_part))]
     fn size(&self, plan: Plan) -> usize
         requires { Sound (bytes_of self.now) plan }
         ensures { result ≡ length (added (bytes_of self.now) plan) }

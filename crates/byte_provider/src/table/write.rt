@@ -97,6 +97,7 @@ impl Table {
     }
 
     // Writes what a plan adds, and answers where its value lies.
+    #[tactic(auto, using(crate::proofs::Loops::length_shifted, crate::specs::Parts::length_part))]
     pub(crate) fn write(&mut self, plan: Plan) -> Span
         requires { (Sound (held self.old) plan) × (self.old.used + length (added (held self.old) plan) ≤ 32768) }
         ensures { Written self.old plan result self.new }
