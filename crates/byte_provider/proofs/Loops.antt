@@ -1,5 +1,5 @@
 -- One turn of each loop over the bytes of a span.
-use Rattle.std.proofs.Common.{◌≡◌, ℕ, suc, ◌+◌, ◌%◌, ◌<◌, ◌≤◌, List, [], ◌∷◌, ◌++◌, length, get_or, take, drop, set, sym, refl, ap, ◌∙◌, append_assoc, add-one, arith, length-take, drop-cons}
+use Rattle.std.proofs.Common.{◌≡◌, ℕ, suc, ◌+◌, ◌%◌, ◌<◌, List, [], ◌∷◌, ◌++◌, length, get_or, take, sym, refl, ap, ◌∙◌, arith, length-take}
 use Rattle.byte_provider.specs.declared.span.Span.{Span}
 use Rattle.byte_provider.specs.declared.plan.Shift.{Shift}
 use Rattle.byte_provider.specs.Held.{part, Inside}

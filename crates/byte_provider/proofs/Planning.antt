@@ -7,17 +7,15 @@ use Rattle.std.proofs.lemmas.Option.{slice_get_past, slice_get-get_or}
 use Rattle.bounded.specs.Items.{items}
 use Rattle.byte_provider.specs.Issued.{stands_in, stands_out}
 use Rattle.provider.specs.declared.Making.{Making}
-use Rattle.provider.specs.declared.Making.TheVariants.{Join, Left, Right, Mate}
+use Rattle.provider.specs.declared.Making.TheVariants.{Left, Right, Mate}
 use Rattle.provider.specs.Meaning.{stands, on}
 use Rattle.byte_provider.specs.declared.store.ByteProvider.{ByteProvider}
 use Rattle.byte_provider.specs.declared.span.Span.{Span}
 use Rattle.byte_provider.specs.declared.plan.KeyType.{KeyType}
 use Rattle.byte_provider.specs.declared.plan.Shift.{Shift}
-use Rattle.byte_provider.specs.declared.plan.Head.{Head}
 use Rattle.byte_provider.specs.declared.plan.Head.TheVariants.{One}
 use Rattle.byte_provider.specs.declared.plan.Plan.TheVariants.{Copied, Shifted, Part}
-use Rattle.byte_provider.specs.Held.{part, Inside, no_span}
-use Rattle.byte_provider.specs.Plans.{head_bytes, length_bytes, HeadFits}
+use Rattle.byte_provider.specs.Held.{part, no_span}
 use Rattle.byte_provider.specs.Planned.{IsKey, Lies, Located, PlanFor}
 use Rattle.byte_provider.specs.State.{bytes_of, count_of, issued_of, made_of, stored}
 use Rattle.byte_provider.specs.Values.{left_size, key_type, shifted, mate_first, body}

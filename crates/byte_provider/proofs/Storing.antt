@@ -1,24 +1,18 @@
 -- Storing the value of a plan is what its making does.
-use Rattle.std.proofs.Common.{◌≡◌, ℕ, ◌+◌, ◌-◌, ◌<◌, ◌≤◌, true, cond, List, [], ◌∷◌, ◌++◌, length, is_some, Some, Ok, sym, refl, ap, ◌∙◌, arith, length-append, ltb-true, eq-eqb, ne_eqb, leb-true}
+use Rattle.std.proofs.Common.{◌≡◌, ℕ, ◌-◌, ◌<◌, ◌≤◌, true, cond, List, [], ◌∷◌, ◌++◌, length, is_some, Some, Ok, sym, refl, ap, ◌∙◌, arith, ltb-true, eq-eqb, ne_eqb, leb-true}
 use Rattle.std.proofs.lemmas.Bool.{and_parts}
 use Rattle.bounded.specs.Items.{items}
 use Rattle.provider.specs.declared.Making.{Making}
 use Rattle.provider.specs.Meaning.{stands, Answers}
 use Rattle.byte_provider.specs.declared.store.ByteProvider.{ByteProvider}
 use Rattle.byte_provider.specs.declared.plan.Plan.{Plan}
-use Rattle.byte_provider.specs.declared.plan.Plan.TheVariants.{Copied, Shifted}
-use Rattle.byte_provider.specs.declared.plan.Head.{Head}
-use Rattle.byte_provider.specs.declared.plan.Shift.{Shift}
 use Rattle.byte_provider.specs.declared.span.Span.{Span}
-use Rattle.byte_provider.specs.Held.{part}
 use Rattle.byte_provider.specs.Outcome.{Done}
 use Rattle.byte_provider.specs.Planned.{PlanFor}
-use Rattle.byte_provider.specs.Plans.{head_bytes, written, added, Sound}
+use Rattle.byte_provider.specs.Plans.{written, added}
 use Rattle.byte_provider.specs.State.{bytes_of, count_of, issued_of, issued_below, made_of, fits_of, meaning_of, has_room, free, stored, room}
 use Rattle.byte_provider.specs.Values.{byte_algebra}
 use Rattle.byte_provider.specs.Writing.{Written}
-use Rattle.byte_provider.specs.Parts.{length_part}
-use Rattle.byte_provider.proofs.Loops.{length_shifted}
 use Rattle.byte_provider.specs.Issued.{below, length_issued, issued_more, issued_next}
 
 pub room_is : (s : ByteProvider) (plan : Plan) → has_room s plan ≡ true → (count_of s < 4096) × (length (added (bytes_of s) plan) ≤ 32768 - length (bytes_of s))

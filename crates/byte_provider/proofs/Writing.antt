@@ -1,20 +1,12 @@
 -- How the bytes in use grow.
 use Rattle.std.specs.List.{copy_within}
-use Rattle.std.proofs.Common.{◌≡◌, ℕ, ◌+◌, ◌-◌, ◌<◌, ◌≤◌, replicate, ⊎_elim, List, [], ◌∷◌, ◌++◌, length, get_or, take, set, sym, ap, ◌∙◌, ap₂, append_assoc, arith, drop, length-append, length-drop, length-take, length-take-le, get_or-take}
+use Rattle.std.proofs.Common.{◌≡◌, ℕ, ◌+◌, ◌-◌, ◌<◌, ◌≤◌, replicate, ⊎_elim, List, [], ◌∷◌, ◌++◌, length, get_or, take, set, sym, ap, ◌∙◌, append_assoc, arith, drop, length-drop, length-take, get_or-take}
 use Rattle.std.proofs.lemmas.Bool.{cases_lt}
 use Rattle.std.proofs.lemmas.List.{take_more_set, get_or_append_left, get_or_past, get_or-replicate, length-replicate}
 use Rattle.std.proofs.lemmas.List.Edits.{take-paste}
-use Rattle.byte_provider.specs.declared.table.Table.{Table}
 use Rattle.byte_provider.specs.declared.span.Span.{Span}
-use Rattle.byte_provider.specs.declared.plan.Head.{Head}
-use Rattle.byte_provider.specs.declared.plan.Shift.{Shift}
-use Rattle.byte_provider.specs.declared.plan.Plan.{Plan}
-use Rattle.byte_provider.specs.declared.plan.Plan.TheVariants.{Copied, Shifted}
-use Rattle.byte_provider.specs.Held.{held, part, Inside}
-use Rattle.byte_provider.specs.Plans.{head_bytes, written, added, Sound}
-use Rattle.byte_provider.specs.Writing.{Added, Written}
-use Rattle.byte_provider.specs.Parts.{length_part, part_front, part_end, part_part}
-use Rattle.byte_provider.proofs.Loops.{length_shifted}
+use Rattle.byte_provider.specs.Held.{part, Inside}
+use Rattle.byte_provider.specs.Parts.{part_part}
 
 -- zeros are bytes
 pub zeros_small : (n k : ℕ) → get_or (replicate n 0) k 0 < 256

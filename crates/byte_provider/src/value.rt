@@ -43,5 +43,7 @@ pub(crate) fn key_type(key: &[u8]) -> Option<KeyType>
 pub(crate) fn sum(value: &[u8]) -> u8
     ensures { result ≡ sum value.now % 256 }
 {
-    value.iter().fold(0, |sum: u8, byte| sum.wrapping_add(*byte))
+    value
+        .iter()
+        .fold(0, |sum: u8, byte| sum.wrapping_add(*byte))
 }

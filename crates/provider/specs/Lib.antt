@@ -1,3 +1,4 @@
 pub mod Algebra
 pub mod Meaning
 pub mod Reopening
+pub mod Errors

@@ -6,13 +6,16 @@
 
 #![tactic(auto)]
 
-ghost use Rattle.std.specs.Prelude.{◌≡◌, ℕ, Result};
+ghost use Rattle.std.specs.Prelude.{◌≡◌, ℕ, Result, Some};
 ghost use Rattle.provider.specs.Algebra.{Algebra, Halves, Mates, Seals, Builds};
+ghost use Rattle.provider.specs.Errors.{message_of};
 ghost use Rattle.provider.specs.Meaning.{Meaning, Answers, Same, Unfit, Holds};
 ghost use Rattle.provider.specs.Reopening.{Reopened};
 ghost use Rattle.provider.specs.declared.Making.{Making};
 ghost use Rattle.provider.specs.declared.ProviderError.{ProviderError};
 ghost use Rattle.provider.specs.declared.Making.TheVariants.{Atom, Join, Left, Right, Seal, Open, Digest, Entry, Mate};
+
+use std::fmt;
 
 // A number by which a provider knows a value. Any number may be asked about; only issued ones stand for a value.
 pub type Handle = usize;
@@ -42,6 +45,17 @@ pub enum Making {
 pub enum ProviderError {
     Wrong,
     Full,
+}
+
+impl fmt::Display for ProviderError {
+    ghost output = { λ e. Some (message_of e) };
+
+    fn fmt<W: fmt::Write>(&self, f: &mut fmt::Formatter<W>) -> fmt::Result {
+        match self {
+            ProviderError::Wrong => write!(f, "the provider calls a making wrong"),
+            ProviderError::Full => write!(f, "the provider is full"),
+        }
+    }
 }
 
 pub trait Provider {

@@ -7,7 +7,7 @@ mod passage;
 
 use byte_provider::ByteProvider;
 use passage::{LEGS, Rehearsal, rehearse};
-use provider::{Handle, ProviderError};
+use provider::{Handle, Provider};
 use std::io;
 use symbolic_provider::SymbolicProvider;
 
@@ -62,39 +62,29 @@ fn print_opening(rt: &HostRuntime, done: Rehearsal) -> io::Result<()> {
     println!(rt; "unit with another key: opens it: {}", verdict(done.leaked))
 }
 
-fn print_refusal(rt: &HostRuntime, error: ProviderError) -> io::Result<()> {
-    match error {
-        ProviderError::Wrong => println!(rt; "stopped: the provider calls a making wrong"),
-        ProviderError::Full => println!(rt; "stopped: the provider is full"),
-    }
-}
-
-fn rehearse_on_bytes(rt: &HostRuntime) -> io::Result<()> {
-    println!(rt; "on the byte provider")?;
-    let mut provider = ByteProvider::blank();
+// Rehearses on a provider, and prints what came of it. What a listener hears of the sealed plan is told by `hear`.
+fn rehearse_on<P: Provider + Drop, F: Fn(&P, Handle) -> io::Result<()>>(
+    rt: &HostRuntime,
+    name: &str,
+    mut provider: P,
+    hear: F,
+) -> io::Result<()>
+    requires { F.IsAlwaysCallable hear }
+{
+    println!(rt; "on the {name} provider")?;
     match rehearse(&mut provider) {
         Ok(done) => {
             print_sealing(rt, done)?;
-            print_bytes(rt, &provider, done.sealed)?;
+            hear(&provider, done.sealed)?;
             print_opening(rt, done)
         }
-        Err(error) => print_refusal(rt, error),
-    }
-}
-
-fn rehearse_on_terms(rt: &HostRuntime) -> io::Result<()> {
-    println!(rt; "on the symbolic provider")?;
-    let mut provider = SymbolicProvider::blank();
-    match rehearse(&mut provider) {
-        Ok(done) => {
-            print_sealing(rt, done)?;
-            print_opening(rt, done)
-        }
-        Err(error) => print_refusal(rt, error),
+        Err(error) => println!(rt; "stopped: {error}"),
     }
 }
 
 fn main(rt: HostRuntime) -> io::Result<()> {
-    rehearse_on_bytes(&rt)?;
-    rehearse_on_terms(&rt)
+    rehearse_on(&rt, "byte", ByteProvider::blank(), |provider, sealed| {
+        print_bytes(&rt, provider, sealed)
+    })?;
+    rehearse_on(&rt, "symbolic", SymbolicProvider::blank(), |_, _| Ok(()))
 }

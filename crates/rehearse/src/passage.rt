@@ -47,13 +47,21 @@ pub(crate) struct Rehearsal {
     pub(crate) leaked: bool,
 }
 
+// Three values as one: the first joined with what the others make.
+fn joined<P: Provider>(
+    provider: &mut P,
+    [first, second, third]: [Handle; 3],
+) -> Result<Handle, ProviderError> {
+    let rest = provider.join(second, third)?;
+    provider.join(first, rest)
+}
+
 // A leg as a value: its three numbers, joined.
 fn leg_value<P: Provider>(provider: &mut P, leg: Leg) -> Result<Handle, ProviderError> {
     let buoy = provider.atom(NUMBER, leg.buoy)?;
     let course = provider.atom(NUMBER, leg.course)?;
     let speed = provider.atom(NUMBER, leg.speed)?;
-    let rest = provider.join(course, speed)?;
-    provider.join(buoy, rest)
+    joined(provider, [buoy, course, speed])
 }
 
 // The plan as a value: its legs, joined.
@@ -61,8 +69,7 @@ fn plan_value<P: Provider>(provider: &mut P) -> Result<Handle, ProviderError> {
     let first = leg_value(provider, LEGS[0])?;
     let second = leg_value(provider, LEGS[1])?;
     let third = leg_value(provider, LEGS[2])?;
-    let rest = provider.join(second, third)?;
-    provider.join(first, rest)
+    joined(provider, [first, second, third])
 }
 
 // Whether a sealed value opens to the plan. An opener that is wrong for it opens nothing.

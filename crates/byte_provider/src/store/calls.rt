@@ -122,7 +122,6 @@ impl Provider for ByteProvider {
     fn fits(&self, making: Making) -> bool
         ensures { result ≡ fits_of self.now making }
     {
-        self.plan(making)
-            .is_some_and(|plan| self.has_room(plan))
+        self.plan(making).is_some_and(|plan| self.has_room(plan))
     }
 }

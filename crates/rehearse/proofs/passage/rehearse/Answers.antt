@@ -16,10 +16,10 @@ returns g c =
     let again = c.in_ok-again.again in
     let sealed = c.in_ok-sealed.sealed in
     let opened = c.in_ok-opened.opened in
-    let ek : stands (p.meaning s1).issued key ≡ Some (p.algebra.atom 2 7) = c.in_ok-key.ensures.answer in
+    let ek : stands (p.meaning s1).issued key ≡ Some (p.algebra.atom 2 7) = c.in_ok-key.ensures.answers.answer in
     let re = c.in_ok-again.ensures in
-    let se = c.in_ok-sealed.ensures in
-    let op = c.in_ok-opened.ensures in (
+    let se = c.in_ok-sealed.ensures.answers in
+    let op = c.in_ok-opened.ensures.answers in (
       opens_again p.proper p.algebra p.meaning met.mates met.seals met.holds s1 s2 s3 s4 plan key again sealed opened 7 (lit≤ tt) ek re se op c.same-tried.result c.same-tried.ensures,
       arrives p.proper p.algebra p.meaning met.mates met.seals met.holds s1 s2 s3 s4 plan key again sealed opened 7 (lit≤ tt) ek re se op c.same-arrived.result c.same-arrived.ensures,
     )

@@ -1,6 +1,6 @@
 use Rattle.std.proofs.Common.{ap, ◌∙◌}
 use Rattle.byte_provider.specs.Values.{key_type}
-use Rattle.byte_provider.proofs.Planning.{key_len, is_key}
+use Rattle.byte_provider.proofs.Planning.{is_key}
 use Rattle.byte_provider.proofs.store.ByteProvider.key.Goals as goal
 
 pub returns : goal.returns

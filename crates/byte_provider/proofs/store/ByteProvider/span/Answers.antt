@@ -1,5 +1,3 @@
-use Rattle.std.proofs.Common.{sym}
-use Rattle.byte_provider.specs.Planned.{Located}
 use Rattle.byte_provider.proofs.Planning.{located}
 use Rattle.byte_provider.proofs.store.ByteProvider.span.Goals as goal
 

@@ -1,5 +1,5 @@
 use Rattle.std.proofs.Common.{◌+◌, ◌≤◌, length, take, sym, ap, ◌∙◌, rules}
-use Rattle.byte_provider.specs.Held.{held, part}
+use Rattle.byte_provider.specs.Held.{held}
 use Rattle.byte_provider.specs.Parts.{length_part}
 use Rattle.byte_provider.proofs.Writing.{copied_to}
 use Rattle.byte_provider.proofs.table.Table.copy.Goals as goal
