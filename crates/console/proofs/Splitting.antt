@@ -1,36 +1,44 @@
 -- Where the first word of a text ends.
-use Rattle.std.proofs.Common.{◌≡◌, ℕ, zero, suc, ◌<◌, cond, eqb, List, [], ◌∷◌, length, get_or, take, drop, Some, Option, refl, ap, ◌∙◌, arith, Bor, eq-eqb, ne_eqb}
-use Rattle.std.proofs.lemmas.Bool.{cond_both}
-use Rattle.console.specs.Words.{lead, split, split_after}
+use Rattle.std.proofs.Common.{◌≡◌, ℕ, ◌+◌, ◌-◌, ◌<◌, ◌≤◌, Bool, true, false, cond, eqb, List, [], ◌∷◌, length, take, drop, is_some, Some, None, Option, sym, refl, ap, ◌∙◌, arith, Bor, length-drop, ltb-true, take_all}
+use Rattle.std.specs.Prelude.{nat_lt}
+use Rattle.std.specs.List.{position, position_or_len}
+use Rattle.std.proofs.lemmas.Bool.{false≢true, ltb-false}
+use Rattle.std.proofs.lemmas.List.Splits.{slice_split_first, slice_split_none, length-slice_split}
+use Rattle.std.proofs.lemmas.List.Sums.{fails_before_first}
+use Rattle.console.specs.Calls.{call_of}
+use Rattle.console.specs.Words.{split, split_after}
 
--- no space before n
-abbrev Unspaced : List ℕ → ℕ → Type 0
-Unspaced xs n = (k : ℕ) → k < n → get_or xs k 0 ≡ 32 → ⊥
+abbrev is_space : ℕ → Bool
+is_space b = eqb b 32
 
--- a byte that is no space belongs to the first word
-on_lead : (x : ℕ) (xs : List ℕ) → (x ≡ 32 → ⊥) → split (x ∷ xs) ≡ lead x (split xs)
-on_lead x xs ne = ap (λ b. cond b ([] ∷ split xs) (lead x (split xs))) (ne_eqb x 32 ne)
+pub cut_some : (xs : List ℕ) (n : ℕ) → Some n ≡ position is_space xs → split xs ≡ take n xs ∷ split (take (length xs - (n + 1)) (drop (n + 1) xs))
+cut_some xs n e = by (nat_lt (position_or_len is_space xs) (length xs)) refl e
+  where
+    by : (b : Bool) → nat_lt (position_or_len is_space xs) (length xs) ≡ b → Some n ≡ cond b (Some (position_or_len is_space xs)) None → split xs ≡ take n xs ∷ split (take (length xs - (n + 1)) (drop (n + 1) xs))
+    by true h q =
+        let m : position_or_len is_space xs ≡ n = cc in
+        let whole : length (drop (n + 1) xs) ≤ length xs - (n + 1) = omega (arith, length-drop (n + 1) xs) in
+        rw (take_all (length xs - (n + 1)) (drop (n + 1) xs) whole)
+        (slice_split_first is_space xs 0 (ltb-true _ _ h) ∙ ap (λ k. take k xs ∷ split (drop (k + 1) xs)) m)
+    by false h q = absurd (false≢true (ap is_some (sym q)))
 
-pub split_at : (xs : List ℕ) (n : ℕ) → n < length xs → Unspaced xs n → get_or xs n 0 ≡ 32 → split xs ≡ take n xs ∷ split (drop (suc n) xs)
-split_at [] n h before here = absurd (omega arith)
-split_at (x ∷ xs) zero h before here = ap (λ b. cond b ([] ∷ split xs) (lead x (split xs))) (eq-eqb x 32 here)
-split_at (x ∷ xs) (suc n) h before here =
-    on_lead x xs (before 0 (omega arith)) ∙ ap (lead x) (split_at xs n (omega arith) (λ k l. before (suc k) (omega arith)) here)
+pub cut_none : (xs : List ℕ) → None ≡ position is_space xs → split xs ≡ xs ∷ []
+cut_none xs e = by (nat_lt (position_or_len is_space xs) (length xs)) refl e
+  where
+    by : (b : Bool) → nat_lt (position_or_len is_space xs) (length xs) ≡ b → None ≡ cond b (Some (position_or_len is_space xs)) None → split xs ≡ xs ∷ []
+    by true h q = absurd (false≢true (ap is_some q))
+    by false h q =
+        let l : length xs ≤ position_or_len is_space xs = ltb-false _ _ h in
+        slice_split_none is_space xs (λ k d i. fails_before_first is_space xs k d (omega (arith, l, i)))
 
-pub split_whole : (xs : List ℕ) → Unspaced xs (length xs) → split xs ≡ xs ∷ []
-split_whole [] before = refl
-split_whole (x ∷ xs) before =
-    on_lead x xs (before 0 (omega arith)) ∙ ap (lead x) (split_whole xs (λ k l. before (suc k) (omega arith)))
+-- the words after the first
+pub rest_is : (xs w : List ℕ) (o : Option (Bor (List ℕ))) (rest : Bor (List ℕ)) → split xs ≡ w ∷ split_after o → o ≡ Some rest → split xs ≡ w ∷ split rest.now
+rest_is xs w o rest e is = e ∙ ap (λ p. w ∷ split_after p) is
 
-lead_some : (x : ℕ) (ws : List (List ℕ)) → 0 < length ws → 0 < length (lead x ws)
-lead_some x [] h = h
-lead_some x (w ∷ ws) h = omega arith
-
--- even an empty text has a word
-pub split_some : (xs : List ℕ) → 0 < length (split xs)
-split_some [] = omega arith
-split_some (x ∷ xs) = cond_both (eqb x 32) ([] ∷ split xs) (lead x (split xs)) (λ ws. 0 < length ws) (λ e. omega arith) (λ e. lead_some x (split xs) (split_some xs))
-
--- a word that a space follows is one more than those after it
-pub one_more : (xs w : List ℕ) (o : Option (Bor (List ℕ))) (rest : Bor (List ℕ)) → split xs ≡ w ∷ split_after o → o ≡ Some rest → length (split xs) ≡ suc (length (split rest.now))
-one_more xs w o rest e is = ap length e ∙ ap (λ p. suc (length (split_after p))) is
+-- a text of more words than four is no call
+pub too_many : (a b c d : List ℕ) (xs : List ℕ) → None ≡ call_of (a ∷ b ∷ c ∷ d ∷ split xs)
+too_many a b c d xs = by (split xs) (omega (arith, length-slice_split is_space xs))
+  where
+    by : (ws : List (List ℕ)) → 0 < length ws → None ≡ call_of (a ∷ b ∷ c ∷ d ∷ ws)
+    by [] h = absurd (omega arith)
+    by (w ∷ ws) h = refl

@@ -1,5 +1,4 @@
 -- What the console's contracts cite.
-pub mod Answers
 pub mod Calls
 pub mod Steps
 pub mod Words

@@ -4,7 +4,7 @@ ghost use Rattle.console.specs.Calls.{making_one, making_two, choice, call_two, 
 ghost use Rattle.console.specs.Words.{split};
 
 use crate::number::number;
-use crate::words::{Words, is, words_of};
+use crate::words::cut;
 use provider::{Handle, Making};
 
 #[derive(Clone, Copy)]
@@ -23,14 +23,11 @@ pub enum Call {
 fn making_of_one(word: &[u8], a: usize) -> Option<Making>
     ensures { result ≡ making_one word.now a }
 {
-    if is(word, b"left") {
-        Some(Making::Left(a))
-    } else if is(word, b"right") {
-        Some(Making::Right(a))
-    } else if is(word, b"mate") {
-        Some(Making::Mate(a))
-    } else {
-        None
+    match word {
+        b"left" => Some(Making::Left(a)),
+        b"right" => Some(Making::Right(a)),
+        b"mate" => Some(Making::Mate(a)),
+        _ => None,
     }
 }
 
@@ -38,20 +35,14 @@ fn making_of_one(word: &[u8], a: usize) -> Option<Making>
 fn making_of_two(word: &[u8], a: usize, b: usize) -> Option<Making>
     ensures { result ≡ making_two word.now a b }
 {
-    if is(word, b"atom") {
-        Some(Making::Atom(a, b))
-    } else if is(word, b"join") {
-        Some(Making::Join(a, b))
-    } else if is(word, b"seal") {
-        Some(Making::Seal(a, b))
-    } else if is(word, b"open") {
-        Some(Making::Open(a, b))
-    } else if is(word, b"digest") {
-        Some(Making::Digest(a, b))
-    } else if is(word, b"entry") {
-        Some(Making::Entry(a, b))
-    } else {
-        None
+    match word {
+        b"atom" => Some(Making::Atom(a, b)),
+        b"join" => Some(Making::Join(a, b)),
+        b"seal" => Some(Making::Seal(a, b)),
+        b"open" => Some(Making::Open(a, b)),
+        b"digest" => Some(Making::Digest(a, b)),
+        b"entry" => Some(Making::Entry(a, b)),
+        _ => None,
     }
 }
 
@@ -59,12 +50,10 @@ fn making_of_two(word: &[u8], a: usize, b: usize) -> Option<Making>
 fn choice_of(word: &[u8]) -> Option<Call>
     ensures { result ≡ choice word.now }
 {
-    if is(word, b"bytes") {
-        Some(Call::ChooseBytes)
-    } else if is(word, b"symbolic") {
-        Some(Call::ChooseSymbolic)
-    } else {
-        None
+    match word {
+        b"bytes" => Some(Call::ChooseBytes),
+        b"symbolic" => Some(Call::ChooseSymbolic),
+        _ => None,
     }
 }
 
@@ -72,14 +61,10 @@ fn choice_of(word: &[u8]) -> Option<Call>
 fn call_of_two(word: &[u8], a: &[u8]) -> Option<Call>
     ensures { result ≡ call_two word.now a.now }
 {
-    if is(word, b"provider") {
-        return choice_of(a);
-    }
-    let a = number(a)?;
-    if is(word, b"show") {
-        Some(Call::Show(a))
-    } else {
-        Some(Call::Make(making_of_one(word, a)?))
+    match word {
+        b"provider" => choice_of(a),
+        b"show" => Some(Call::Show(number(a)?)),
+        _ => Some(Call::Make(making_of_one(word, number(a)?)?)),
     }
 }
 
@@ -87,15 +72,10 @@ fn call_of_two(word: &[u8], a: &[u8]) -> Option<Call>
 fn call_of_three(word: &[u8], a: &[u8], b: &[u8]) -> Option<Call>
     ensures { result ≡ call_three word.now a.now b.now }
 {
-    let second = number(b)?;
-    if is(word, b"fits") {
-        return Some(Call::Fits(making_of_one(a, second)?));
-    }
-    let first = number(a)?;
-    if is(word, b"same") {
-        Some(Call::Same(first, second))
-    } else {
-        Some(Call::Make(making_of_two(word, first, second)?))
+    match word {
+        b"fits" => Some(Call::Fits(making_of_one(a, number(b)?)?)),
+        b"same" => Some(Call::Same(number(a)?, number(b)?)),
+        _ => Some(Call::Make(making_of_two(word, number(a)?, number(b)?)?)),
     }
 }
 
@@ -103,22 +83,27 @@ fn call_of_three(word: &[u8], a: &[u8], b: &[u8]) -> Option<Call>
 fn call_of_four(word: &[u8], making: &[u8], a: &[u8], b: &[u8]) -> Option<Call>
     ensures { result ≡ call_four word.now making.now a.now b.now }
 {
-    if is(word, b"fits") {
-        Some(Call::Fits(making_of_two(making, number(a)?, number(b)?)?))
-    } else {
-        None
+    match word {
+        b"fits" => Some(Call::Fits(making_of_two(making, number(a)?, number(b)?)?)),
+        _ => None,
     }
 }
 
-// The call that a line writes.
+// The call that a line writes, which has two words to four.
 pub fn read_call(line: &[u8]) -> Option<Call>
     ensures { result ≡ call_of (split line.now) }
 {
-    match words_of(line) {
-        Words::Two(word, a) => call_of_two(word, a),
-        Words::Three(word, a, b) => call_of_three(word, a, b),
-        Words::Four(word, making, a, b) => call_of_four(word, making, a, b),
-        Words::One(_) => None,
-        Words::More => None,
+    let (word, rest) = cut(line);
+    let (first, rest) = cut(rest?);
+    let Some(rest) = rest else {
+        return call_of_two(word, first);
+    };
+    let (second, rest) = cut(rest);
+    let Some(rest) = rest else {
+        return call_of_three(word, first, second);
+    };
+    match cut(rest) {
+        (third, None) => call_of_four(word, first, second, third),
+        (_, Some(_)) => None,
     }
 }

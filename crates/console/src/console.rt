@@ -1,14 +1,13 @@
 // The console's state and its answers.
-ghost use Rattle.std.specs.Prelude.{◌≡◌};
-ghost use Rattle.console.specs.declared.console.Chosen.TheVariants.{Nothing};
+ghost use Rattle.std.specs.Prelude.{◌≡◌, None};
 ghost use Rattle.console.specs.Calls.{call_of};
 ghost use Rattle.console.specs.Steps.{Answered, BytesShown, FitsBy, LineAnswered, MadeBy, SameBy, ShownBy, TermShown};
 ghost use Rattle.console.specs.Words.{split};
 
-use crate::answer::{Answer, make, yes_or_no};
+use crate::answer::Answer;
 use crate::call::{Call, read_call};
 use byte_provider::ByteProvider;
-use provider::{Handle, Making, Provider};
+use provider::{Handle, Making, Provider, ProviderError};
 use std::io;
 use std::io::Write;
 use symbolic_provider::SymbolicProvider;
@@ -17,14 +16,13 @@ use terms::{Form, TermNode};
 // Which provider the calls go to.
 #[derive(Clone, Copy)]
 pub enum Chosen {
-    Nothing,
     Bytes,
     Symbolic,
 }
 
 #[derive(Drop)]
 pub struct Console {
-    chosen: Chosen,
+    chosen: Option<Chosen>,
     bytes: ByteProvider,
     symbolic: SymbolicProvider,
     // the bytes that were shown last stand at its front
@@ -33,43 +31,40 @@ pub struct Console {
 
 impl Console {
     pub fn new() -> Self
-        ensures { result.chosen ≡ Nothing }
+        ensures { result.chosen ≡ None }
     {
         Console {
-            chosen: Chosen::Nothing,
+            chosen: None,
             bytes: ByteProvider::blank(),
             symbolic: SymbolicProvider::blank(),
             shown: [0; 32768],
         }
     }
 
-    fn make(&mut self, making: Making) -> Answer
+    fn make(&mut self, making: Making) -> Option<Answer>
         ensures { MadeBy self.old.chosen self.old making result self.new }
     {
-        match self.chosen {
-            Chosen::Nothing => Answer::Unread,
-            Chosen::Bytes => make(&mut self.bytes, making),
-            Chosen::Symbolic => make(&mut self.symbolic, making),
+        match self.chosen? {
+            Chosen::Bytes => Some(Answer::Made(self.bytes.make(making))),
+            Chosen::Symbolic => Some(Answer::Made(self.symbolic.make(making))),
         }
     }
 
-    fn fits(&self, making: Making) -> Answer
+    fn fits(&self, making: Making) -> Option<Answer>
         ensures { FitsBy self.now.chosen self.now making result }
     {
-        match self.chosen {
-            Chosen::Nothing => Answer::Unread,
-            Chosen::Bytes => yes_or_no(self.bytes.fits(making)),
-            Chosen::Symbolic => yes_or_no(self.symbolic.fits(making)),
+        match self.chosen? {
+            Chosen::Bytes => Some(Answer::Said(self.bytes.fits(making))),
+            Chosen::Symbolic => Some(Answer::Said(self.symbolic.fits(making))),
         }
     }
 
-    fn same(&self, a: Handle, b: Handle) -> Answer
+    fn same(&self, a: Handle, b: Handle) -> Option<Answer>
         ensures { SameBy self.now.chosen self.now a b result }
     {
-        match self.chosen {
-            Chosen::Nothing => Answer::Unread,
-            Chosen::Bytes => yes_or_no(self.bytes.same(a, b)),
-            Chosen::Symbolic => yes_or_no(self.symbolic.same(a, b)),
+        match self.chosen? {
+            Chosen::Bytes => Some(Answer::Said(self.bytes.same(a, b))),
+            Chosen::Symbolic => Some(Answer::Said(self.symbolic.same(a, b))),
         }
     }
 
@@ -80,7 +75,7 @@ impl Console {
         match self.bytes.read(handle, &mut self.shown) {
             Ok(len) => Answer::Bytes(len),
             // no value is too long to be shown
-            Err(_) => Answer::Wrong,
+            Err(_) => Answer::Unissued,
         }
     }
 
@@ -89,33 +84,33 @@ impl Console {
     {
         match self.symbolic.term(handle) {
             Some(node) => Answer::Term(node),
-            None => Answer::Wrong,
+            None => Answer::Unissued,
         }
     }
 
-    fn show(&mut self, handle: Handle) -> Answer
+    fn show(&mut self, handle: Handle) -> Option<Answer>
         ensures { ShownBy self.old.chosen self.old handle result self.new }
     {
-        match self.chosen {
-            Chosen::Nothing => Answer::Unread,
-            Chosen::Bytes => self.show_bytes(handle),
-            Chosen::Symbolic => self.show_term(handle),
+        match self.chosen? {
+            Chosen::Bytes => Some(self.show_bytes(handle)),
+            Chosen::Symbolic => Some(self.show_term(handle)),
         }
     }
 
-    pub fn answer(&mut self, call: Call) -> Answer
+    // Answers a call; none where it needs a provider and none is chosen.
+    pub fn answer(&mut self, call: Call) -> Option<Answer>
         ensures { Answered self.old call result self.new }
     {
         match call {
             Call::ChooseBytes => {
                 self.bytes = ByteProvider::blank();
-                self.chosen = Chosen::Bytes;
-                Answer::Done
+                self.chosen = Some(Chosen::Bytes);
+                Some(Answer::Done)
             }
             Call::ChooseSymbolic => {
                 self.symbolic = SymbolicProvider::blank();
-                self.chosen = Chosen::Symbolic;
-                Answer::Done
+                self.chosen = Some(Chosen::Symbolic);
+                Some(Answer::Done)
             }
             Call::Make(making) => self.make(making),
             Call::Fits(making) => self.fits(making),
@@ -124,28 +119,27 @@ impl Console {
         }
     }
 
-    // Answers the call that a line writes.
-    pub fn answer_line(&mut self, line: &[u8]) -> Answer
+    // Answers the call that a line writes; none where it writes no call.
+    pub fn answer_line(&mut self, line: &[u8]) -> Option<Answer>
         ensures { LineAnswered self.old (call_of (split line.now)) result self.new }
     {
-        match read_call(line) {
-            Some(call) => self.answer(call),
-            None => Answer::Unread,
-        }
+        self.answer(read_call(line)?)
     }
 
     // Writes the line of an answer.
-    pub fn write<W: Write>(&self, answer: Answer, out: &mut W) -> io::Result<()> {
+    pub fn write<W: Write>(&self, answer: Option<Answer>, out: &mut W) -> io::Result<()> {
         match answer {
-            Answer::Done => writeln!(out, "ok"),
-            Answer::Handle(handle) => writeln!(out, "{handle}"),
-            Answer::Wrong => writeln!(out, "wrong"),
-            Answer::Full => writeln!(out, "full"),
-            Answer::Yes => writeln!(out, "yes"),
-            Answer::No => writeln!(out, "no"),
-            Answer::Bytes(len) => self.write_bytes(len, out),
-            Answer::Term(node) => write_term(node, out),
-            Answer::Unread => writeln!(out, "unread"),
+            Some(Answer::Done) => writeln!(out, "ok"),
+            Some(Answer::Made(Ok(handle))) => writeln!(out, "{handle}"),
+            Some(Answer::Made(Err(ProviderError::Wrong)) | Answer::Unissued) => writeln!(
+                out,
+                "wrong"
+            ),
+            Some(Answer::Made(Err(ProviderError::Full))) => writeln!(out, "full"),
+            Some(Answer::Said(yes)) => writeln!(out, "{}", if yes { "yes" } else { "no" }),
+            Some(Answer::Bytes(len)) => self.write_bytes(len, out),
+            Some(Answer::Term(node)) => write_term(node, out),
+            None => writeln!(out, "unread"),
         }
     }
 

@@ -1,18 +1,16 @@
-use Rattle.std.proofs.Common.{suc, ◌-◌, ◌≤◌, length, drop, add-one, arith, length-drop, take_all}
-use native.Mathlib.Nat.{sub-zero}
-use Rattle.console.proofs.Splitting.{split_at, split_whole}
+use Rattle.std.proofs.Common.{◌≡◌, eqb, sym, ◌∙◌, rules, tests}
+use Rattle.std.specs.List.{position}
+use Rattle.std.proofs.lemmas.Iterator.{YieldsList-from_slice}
+use Rattle.std.proofs.lemmas.Iterator.Search.{position_from_yields_List}
+use Rattle.console.proofs.Splitting.{cut_some, cut_none}
 use Rattle.console.proofs.words.cut.Goals as goal
 
-pub returns-then-len-text : goal.returns-then-len-text
-returns-then-len-text c =
-    let xs = c.args.text.now in
-    let n = c.word_len-len.result in
-    let w = c.word_len-len.ensures in
-    let l = c.if-len-text.true in
-    let whole : length (drop (suc n) xs) ≤ length xs - suc n = omega (arith, length-drop (suc n) xs) in
-    rw (sub-zero n, add-one n, take_all (length xs - suc n) (drop (suc n) xs) whole) (split_at xs n l w.before (w.found l))
+pub returns-in-Some : goal.returns-in-Some
+returns-in-Some c =
+    let found : c.position.result ≡ position (λ b. eqb b 32) c.args.text.now = position_from_yields_List (λ b. eqb b 32) _ _ c.position.result c.position.ensures.ran (YieldsList-from_slice _ c.iter.ensures.rest) (λ x b q k. search (rules, tests)) in
+    cut_some c.args.text.now c.in-Some.end (sym c.in-Some.is ∙ found)
 
-pub returns-else-len-text : goal.returns-else-len-text
-returns-else-len-text c =
-    let w = c.word_len-len.ensures in
-    split_whole c.args.text.now (λ k l. w.before k (omega arith))
+pub returns-in-None : goal.returns-in-None
+returns-in-None c =
+    let found : c.position.result ≡ position (λ b. eqb b 32) c.args.text.now = position_from_yields_List (λ b. eqb b 32) _ _ c.position.result c.position.ensures.ran (YieldsList-from_slice _ c.iter.ensures.rest) (λ x b q k. search (rules, tests)) in
+    cut_none c.args.text.now (sym c.in-None.is ∙ found)
