@@ -1,24 +1,20 @@
 -- Each plan writes the value of its making.
-use Rattle.std.proofs.Common.{◌≡◌, ℕ, ◌+◌, ◌-◌, ◌*◌, ◌<◌, ◌≤◌, Bool, true, false, cond, leb, List, [], ◌∷◌, length, take, drop, is_some, Some, None, Option, sym, refl, ap, ◌∙◌, ap₂, ⊎_elim, append-nil, arith, drop-drop, leb-true}
+use Rattle.std.proofs.Common.{◌≡◌, ℕ, ◌+◌, ◌-◌, ◌*◌, ◌<◌, ◌≤◌, Bool, true, false, cond, leb, List, [], ◌∷◌, length, take, drop, is_some, Some, None, sym, refl, ap, ◌∙◌, ap₂, ⊎_elim, arith, drop-drop, leb-true}
 use mathlib.Core.Bool.{false≢true}
 use Rattle.std.specs.Prelude.{slice_get}
 use Rattle.std.proofs.lemmas.Bool.{cases_lt}
 use Rattle.std.proofs.lemmas.Option.{slice_get_past, slice_get-get_or}
 use Rattle.bounded.specs.Items.{items}
 use Rattle.byte_provider.specs.Issued.{stands_in, stands_out}
-use Rattle.provider.specs.declared.Making.{Making}
-use Rattle.provider.specs.declared.Making.TheVariants.{Left, Right, Mate}
-use Rattle.provider.specs.Meaning.{stands, on}
+use Rattle.provider.specs.declared.Making.TheVariants.{Left, Right}
 use Rattle.byte_provider.specs.declared.store.ByteProvider.{ByteProvider}
 use Rattle.byte_provider.specs.declared.span.Span.{Span}
 use Rattle.byte_provider.specs.declared.plan.KeyType.{KeyType}
-use Rattle.byte_provider.specs.declared.plan.Shift.{Shift}
-use Rattle.byte_provider.specs.declared.plan.Head.TheVariants.{One}
-use Rattle.byte_provider.specs.declared.plan.Plan.TheVariants.{Copied, Shifted, Part}
+use Rattle.byte_provider.specs.declared.plan.Plan.TheVariants.{Part}
 use Rattle.byte_provider.specs.Held.{part, no_span}
 use Rattle.byte_provider.specs.Planned.{IsKey, Lies, Located, PlanFor}
-use Rattle.byte_provider.specs.State.{bytes_of, count_of, issued_of, made_of, stored}
-use Rattle.byte_provider.specs.Values.{left_size, key_type, shifted, mate_first, body}
+use Rattle.byte_provider.specs.State.{bytes_of, count_of}
+use Rattle.byte_provider.specs.Values.{left_size, key_type}
 use Rattle.byte_provider.specs.Parts.{length_part, part_part, part_rest}
 
 -- a handle lies where its place among the spans says
@@ -89,24 +85,3 @@ module _ (s : ByteProvider) (k : ℕ) (q b : Span) (t : KeyType) (lk : Lies s k 
         within = rw eb (omega (arith, h, lk.within));
         some = rw eb (omega (arith, h));
       }
-
--- what is no key has no body to shift by
-pub no_key : {X : Type 0} (o : Option (List ℕ)) (f : List ℕ → KeyType → Option X) → on o key_type ≡ None → on o (λ y. on (key_type y) (f y)) ≡ None
-no_key None f e = refl
-no_key (Some y) f e = rw e refl
-
-module _ (s : ByteProvider) (k : ℕ) (t : KeyType) (b : Span) (key : IsKey s k t b) where
-  -- sealing and opening alike, by the way that the key's type says
-  pub shift_plan : (m : Making) (way : KeyType → Shift) (c : ℕ) (p : Span) (w : Shift) → made_of s m ≡ on (stands (issued_of s) c) (λ x. on (stands (issued_of s) k) (λ y. on (key_type y) (λ u. Some (shifted (way u) (body y) 0 x)))) → ((x : List ℕ) → stored m x ≡ x) → Lies s c p → w ≡ way t → PlanFor s m (Shifted w p b)
-  shift_plan m way c p w em st lc ew = record {
-    makes = em ∙ rw (lc.value, key.is, key.kind, ew) (ap (λ z. Some (shifted (way t) z 0 (part (bytes_of s) p))) key.rest);
-    sound = (lc.within, key.within, key.some);
-    adds = st _;
-  }
-
-  pub mate_plan : (f : ℕ) → f ≡ mate_first t → f < 256 → PlanFor s (Mate k) (Copied (One f) b no_span)
-  mate_plan f ef small = record {
-    makes = rw (key.is, key.kind, ef) (ap (λ v. Some (mate_first t ∷ v)) (key.rest ∙ sym (append-nil (part (bytes_of s) b))));
-    sound = (key.within, omega arith, small);
-    adds = refl;
-  }

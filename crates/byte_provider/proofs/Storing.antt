@@ -1,6 +1,5 @@
 -- Storing the value of a plan is what its making does.
-use Rattle.std.proofs.Common.{◌≡◌, ℕ, ◌-◌, ◌<◌, ◌≤◌, true, cond, List, [], ◌∷◌, ◌++◌, length, is_some, Some, Ok, sym, refl, ap, ◌∙◌, arith, ltb-true, eq-eqb, ne_eqb, leb-true}
-use Rattle.std.proofs.lemmas.Bool.{and_parts}
+use Rattle.std.proofs.Common.{◌≡◌, ℕ, true, cond, List, [], ◌∷◌, ◌++◌, length, is_some, Some, Ok, sym, refl, ap, ◌∙◌, arith, eq-eqb, ne_eqb}
 use Rattle.bounded.specs.Items.{items}
 use Rattle.provider.specs.declared.Making.{Making}
 use Rattle.provider.specs.Meaning.{stands, Answers}
@@ -14,9 +13,6 @@ use Rattle.byte_provider.specs.State.{bytes_of, count_of, issued_of, issued_belo
 use Rattle.byte_provider.specs.Values.{byte_algebra}
 use Rattle.byte_provider.specs.Writing.{Written}
 use Rattle.byte_provider.specs.Issued.{below, length_issued, issued_more, issued_next}
-
-pub room_is : (s : ByteProvider) (plan : Plan) → has_room s plan ≡ true → (count_of s < 4096) × (length (added (bytes_of s) plan) ≤ 32768 - length (bytes_of s))
-room_is s plan h = let p = and_parts _ _ h in (ltb-true _ _ p.0, leb-true _ _ p.1)
 
 -- the next handle for a value is what the making answers
 module _ (s s' : ByteProvider) (m : Making) (x : List ℕ) (makes : made_of s m ≡ Some x) (fits : fits_of s m ≡ true) (is : issued_of s' ≡ (count_of s, x) ∷ issued_of s) (bytes : bytes_of s' ≡ bytes_of s ++ stored m x) where
