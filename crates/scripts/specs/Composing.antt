@@ -58,6 +58,26 @@ AllNamed n (l ∷ ls) = LineBelow n l × AllNamed n ls
 abbrev pub Begins : List Line → List Line → Type 0
 Begins ls ms = (more : List Line) × (ms ≡ ls ++ more)
 
+-- what was written stays in front
+abbrev pub Grows : Script → Script → Type 0
+Grows s s' = Begins (written s) (written s')
+
+-- the number is that of a term of the table
+abbrev pub IsTerm : List TermNode → ℕ → Type 0
+IsTerm ts t = t < length ts
+
+-- the instruction names a term of the table, if it names one
+abbrev pub OpNames : List TermNode → Instruction → Type 0
+OpNames ts op = OpBelow (length ts) op
+
+-- what the slots of the script hold are terms of the table
+abbrev pub HoldsTerms : List TermNode → Script → Type 0
+HoldsTerms ts s = AllKnown (length ts) (written s)
+
+-- what the script names or holds are terms of the table
+abbrev pub NamesTerms : List TermNode → Script → Type 0
+NamesTerms ts s = AllNamed (length ts) (written s)
+
 -- composed as the rules say; full only where what the rules write is longer than 512; missing only where they write nothing
 abbrev pub Puts : List TermNode → Script → ℕ → Result ℕ ScriptError → Script → Type 0
 Puts ts s t (Ok n) s' = (compose (view ts s) (tree ts t) ≡ Some (composed_at n (view ts s'))) × AllKnown (length ts) (written s')

@@ -1,7 +1,7 @@
 // Composing a term from what the slots hold.
-ghost use Rattle.std.specs.Prelude.{◌≡◌, ℕ, ◌<◌, false, length, slice_index_or};
+ghost use Rattle.std.specs.Prelude.{◌≡◌, length, is_ok, take, if◌then◌else◌};
 ghost use Rattle.terms.specs.Listed.{listed};
-ghost use Rattle.scripts.specs.Composing.{AllKnown, AllNamed, Begins, Composes, HeldMarks, Lacks, Marked, Parts, Puts};
+ghost use Rattle.scripts.specs.Composing.{Grows, HeldMarks, HoldsTerms, IsTerm, Lacks, Marked, NamesTerms, Parts, Puts};
 ghost use Rattle.scripts.specs.View.{written};
 
 use crate::instruction::{ScriptError, Slot, builder};
@@ -18,22 +18,14 @@ pub(super) fn parts(terms: &Terms<512>, term: TermId) -> Option<(Form, TermId, T
     }
 }
 
-// Nothing is marked yet.
-fn unmarked() -> [bool; 512]
-    ensures size { length result ≡ 512 }
-    ensures none { (t : ℕ) → slice_index_or result t false ≡ false }
-{
-    [false; 512]
-}
-
 // Marks the term that a slot holds.
 fn mark(marks: &mut [bool; 512], holds: Option<TermId>)
     ensures { Marked marks.old holds marks.new }
 {
-    if let Some(term) = holds {
-        if term < 512 {
-            marks[term] = true;
-        }
+    if let Some(term) = holds
+        && term < 512
+    {
+        marks[term] = true;
     }
 }
 
@@ -42,18 +34,18 @@ impl Script {
     pub fn held(&self) -> [bool; 512]
         ensures { HeldMarks (written self.now) result }
     {
-        let mut marks = unmarked();
-        for slot in 0..self.len {
-            mark(&mut marks, self.lines[slot].holds);
+        let mut marks = [false; 512];
+        for line in &self.lines[..self.len] {
+            mark(&mut marks, line.holds);
         }
         marks
     }
 
     // Goes into the parts in order. What was written before stays in front, whatever the answer.
     pub(super) fn put(&mut self, terms: &Terms<512>, term: TermId) -> Result<Slot, ScriptError>
-        ensures begins { Begins (written self.old) (written self.new) }
-        ensures puts { term < length (listed terms.now) → AllKnown (length (listed terms.now)) (written self.old) → Puts (listed terms.now) self.old term result self.new }
-        ensures names { AllNamed (length (listed terms.now)) (written self.old) → AllNamed (length (listed terms.now)) (written self.new) }
+        ensures grows { Grows self.old self.new }
+        ensures puts { let ts = listed terms.now in IsTerm ts term → HoldsTerms ts self.old → Puts ts self.old term result self.new }
+        ensures names { let ts = listed terms.now in NamesTerms ts self.old → NamesTerms ts self.new }
     {
         if let Some(slot) = self.slot_of(term) {
             return Ok(slot);
@@ -68,30 +60,19 @@ impl Script {
 
     // The first name or mate for want of which a term cannot be composed.
     pub fn missing(&self, terms: &Terms<512>, term: TermId) -> Option<TermId>
-        ensures { term < length (listed terms.now) → AllKnown (length (listed terms.now)) (written self.now) → Lacks (listed terms.now) self.now term result }
+        ensures { let ts = listed terms.now in IsTerm ts term → HoldsTerms ts self.now → Lacks ts self.now term result }
     {
         terms.first_missing(&self.held(), term)
     }
 
-    // Composes a term, and takes back what was written if it is refused.
-    pub(super) fn compose_or_cut(
-        &mut self,
-        terms: &Terms<512>,
-        term: TermId,
-    ) -> Result<Slot, ScriptError>
-        ensures composes { term < length (listed terms.now) → AllKnown (length (listed terms.now)) (written self.old) → Composes (listed terms.now) self.old term result self.new }
-        ensures names { AllNamed (length (listed terms.now)) (written self.old) → AllNamed (length (listed terms.now)) (written self.new) }
+    // Takes back what was written after the first n instructions, if the writing was refused.
+    pub(super) fn cut_if_refused<T>(&mut self, n: usize, done: Result<T, ScriptError>) -> Result<T, ScriptError>
+        ensures same { result ≡ done }
+        ensures cut { written self.new ≡ (if is_ok done then written self.old else take n (written self.old)) }
     {
-        if let Some(lacking) = self.missing(terms, term) {
-            return Err(ScriptError::Missing(lacking));
+        if done.is_err() {
+            self.cut(n);
         }
-        let len = self.len();
-        match self.put(terms, term) {
-            Ok(slot) => Ok(slot),
-            Err(error) => {
-                self.cut(len);
-                Err(error)
-            }
-        }
+        done
     }
 }

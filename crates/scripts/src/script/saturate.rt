@@ -1,13 +1,12 @@
 // Saturating a script: taking apart what its slots hold until nothing new comes of it.
-ghost use Rattle.std.specs.Prelude.{◌≡◌, ℕ, ◌<◌, false, length, Some, slice_index_or};
+ghost use Rattle.std.specs.Prelude.{◌≡◌, false, length, Some, slice_index_or};
 ghost use Rattle.rules.specs.Saturate.{saturate, take_apart, take_held, take_term};
 ghost use Rattle.rules.specs.Script.{Script as RuleScript};
 ghost use Rattle.terms.specs.Listed.{listed};
 ghost use Rattle.terms.specs.Tree.{tree};
-ghost use Rattle.scripts.specs.Composing.{AllNamed, Begins, Below, view};
+ghost use Rattle.scripts.specs.Composing.{Below, Grows, IsTerm, NamesTerms, view};
 ghost use Rattle.scripts.specs.Lines.{held_of};
-ghost use Rattle.scripts.specs.View.{written};
-ghost use Rattle.scripts.specs.Writing.{ContentTaken, HeldIn, Judged, Longer, Takes, TakingKnown, Writes, Wrote, half_taken, taken};
+ghost use Rattle.scripts.specs.Writing.{ContentTaken, HeldIn, Judged, Longer, Takes, TakingKnown, Writes, half_taken, taken};
 
 use crate::instruction::{Instruction, ScriptError, Slot, Taking};
 use crate::script::Script;
@@ -18,7 +17,7 @@ use terms::{Form, TermId, Terms};
 fn is_marked(marks: &[bool; 512], term: TermId) -> bool
     ensures { result ≡ slice_index_or marks.now term false }
 {
-    term < 512 && marks[term]
+    marks.get(term).copied().unwrap_or(false)
 }
 
 // The half of the pair at a slot that cannot be composed, the left one first.
@@ -47,15 +46,13 @@ fn missing_content(
     if is_marked(judged, content) {
         return None;
     }
-    match terms.opener(key) {
-        Some(opener) if is_marked(judged, opener) => Some(Taking::Content(slot, opener, content)),
-        Some(_) | None => None,
-    }
+    let opener = terms.opener(key)?;
+    is_marked(judged, opener).then_some(Taking::Content(slot, opener, content))
 }
 
 // What is taken from a term at a slot.
 fn take_term(terms: &Terms<512>, judged: &[bool; 512], slot: Slot, term: TermId) -> Option<Taking>
-    ensures { (v : RuleScript) → term < length (listed terms.now) → HeldIn (listed terms.now) v → Judged (listed terms.now) v judged.now → Takes (listed terms.now) v (take_term v slot (tree (listed terms.now) term)) result }
+    ensures { let ts = listed terms.now in (v : RuleScript) → IsTerm ts term → HeldIn ts v → Judged ts v judged.now → Takes ts v (take_term v slot (tree ts term)) result }
 {
     match parts(terms, term)? {
         (Form::Pair, a, b) => missing_half(judged, slot, a, b),
@@ -72,25 +69,22 @@ fn take_held(
     slot: Slot,
     holds: Option<TermId>,
 ) -> Option<Taking>
-    ensures { (v : RuleScript) → Below (length (listed terms.now)) holds → HeldIn (listed terms.now) v → Judged (listed terms.now) v judged.now → Takes (listed terms.now) v (take_held v slot (held_of (tree (listed terms.now)) holds)) result }
+    ensures { let ts = listed terms.now in (v : RuleScript) → Below (length ts) holds → HeldIn ts v → Judged ts v judged.now → Takes ts v (take_held v slot (held_of (tree ts) holds)) result }
 {
-    match holds {
-        Some(term) => take_term(terms, judged, slot, term),
-        None => None,
-    }
+    take_term(terms, judged, slot, holds?)
 }
 
 impl Script {
     // Which terms can be composed from what the slots hold.
     fn judged(&self, terms: &Terms<512>) -> [bool; 512]
-        ensures { AllNamed (length (listed terms.now)) (written self.now) → Judged (listed terms.now) (view (listed terms.now) self.now) result }
+        ensures { let ts = listed terms.now in NamesTerms ts self.now → Judged ts (view ts self.now) result }
     {
         terms.composable(&self.held())
     }
 
     // What saturating takes next, at the lowest slot where there is something.
     pub(super) fn next_taking(&self, terms: &Terms<512>) -> Option<Taking>
-        ensures { AllNamed (length (listed terms.now)) (written self.now) → Takes (listed terms.now) (view (listed terms.now) self.now) (take_apart (view (listed terms.now) self.now)) result }
+        ensures { let ts = listed terms.now in NamesTerms ts self.now → Takes ts (view ts self.now) (take_apart (view ts self.now)) result }
     {
         let judged = self.judged(terms);
         for slot in 0..self.len {
@@ -109,9 +103,9 @@ impl Script {
         opener: TermId,
         content: TermId,
     ) -> Result<Slot, ScriptError>
-        ensures begins { Begins (written self.old) (written self.new) }
+        ensures grows { Grows self.old self.new }
         ensures longer { Longer self.old result self.new }
-        ensures opens { opener < length (listed terms.now) → content < length (listed terms.now) → AllNamed (length (listed terms.now)) (written self.old) → (w : RuleScript) → taken (listed terms.now) (view (listed terms.now) self.old) (Taking.Content slot opener content) ≡ Some w → Writes (listed terms.now) w result self.new }
+        ensures opens { let ts = listed terms.now in IsTerm ts opener → IsTerm ts content → NamesTerms ts self.old → (w : RuleScript) → taken ts (view ts self.old) (Taking.Content slot opener content) ≡ Some w → Writes ts w result self.new }
     {
         let with = self.put(terms, opener)?;
         self.push(Instruction::Open(slot, with), Some(content))
@@ -119,9 +113,9 @@ impl Script {
 
     // Writes what is taken.
     pub(super) fn take(&mut self, terms: &Terms<512>, taking: Taking) -> Result<Slot, ScriptError>
-        ensures begins { Begins (written self.old) (written self.new) }
+        ensures grows { Grows self.old self.new }
         ensures longer { Longer self.old result self.new }
-        ensures takes { TakingKnown (length (listed terms.now)) taking → AllNamed (length (listed terms.now)) (written self.old) → (w : RuleScript) → taken (listed terms.now) (view (listed terms.now) self.old) taking ≡ Some w → Writes (listed terms.now) w result self.new }
+        ensures takes { let ts = listed terms.now in TakingKnown (length ts) taking → NamesTerms ts self.old → (w : RuleScript) → taken ts (view ts self.old) taking ≡ Some w → Writes ts w result self.new }
     {
         match taking {
             Taking::LeftHalf(slot, half) => self.push(Instruction::Left(slot), Some(half)),
@@ -131,27 +125,13 @@ impl Script {
     }
 
     // Takes apart until nothing is left to take. What was written before stays in front, whatever the answer.
-    fn take_all(&mut self, terms: &Terms<512>) -> Result<(), ScriptError>
-        ensures begins { Begins (written self.old) (written self.new) }
-        ensures takes { AllNamed (length (listed terms.now)) (written self.old) → Writes (listed terms.now) (saturate (view (listed terms.now) self.old)) result self.new }
+    pub(super) fn take_all(&mut self, terms: &Terms<512>) -> Result<(), ScriptError>
+        ensures grows { Grows self.old self.new }
+        ensures takes { let ts = listed terms.now in NamesTerms ts self.old → Writes ts (saturate (view ts self.old)) result self.new }
     {
         while let Some(taking) = self.next_taking(terms) {
             self.take(terms, taking)?;
         }
         Ok(())
-    }
-
-    // Saturates the script, and takes back what was written if it is refused.
-    pub(super) fn saturate_or_cut(&mut self, terms: &Terms<512>) -> Result<(), ScriptError>
-        ensures { AllNamed (length (listed terms.now)) (written self.old) → Wrote (listed terms.now) self.old (saturate (view (listed terms.now) self.old)) result self.new }
-    {
-        let len = self.len();
-        match self.take_all(terms) {
-            Ok(()) => Ok(()),
-            Err(error) => {
-                self.cut(len);
-                Err(error)
-            }
-        }
     }
 }

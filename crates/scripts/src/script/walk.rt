@@ -1,14 +1,13 @@
 // Walking a term that an instruction brings in: comparing what could be composed, taking apart the rest.
-ghost use Rattle.std.specs.Prelude.{◌≡◌, ◌<◌, length, Some};
+ghost use Rattle.std.specs.Prelude.{◌≡◌, length, Some};
 ghost use Rattle.deduction.specs.Term.{Key};
 ghost use Rattle.rules.specs.Compose.{Composed, compose};
 ghost use Rattle.rules.specs.Walk.{compared, walk};
 ghost use Rattle.terms.specs.Listed.{listed};
 ghost use Rattle.terms.specs.Tree.{tree};
-ghost use Rattle.scripts.specs.Composing.{AllNamed, Begins, OpBelow, view};
+ghost use Rattle.scripts.specs.Composing.{Grows, IsTerm, NamesTerms, OpNames, view};
 ghost use Rattle.scripts.specs.Lines.{op_of};
-ghost use Rattle.scripts.specs.View.{written};
-ghost use Rattle.scripts.specs.Writing.{Unlocks, Writes, Wrote, brought};
+ghost use Rattle.scripts.specs.Writing.{Unlocks, Writes, brought};
 
 use crate::instruction::{Instruction, ScriptError, Slot};
 use crate::script::Script;
@@ -23,8 +22,8 @@ impl Script {
         op: Instruction,
         term: TermId,
     ) -> Result<(), ScriptError>
-        ensures begins { Begins (written self.old) (written self.new) }
-        ensures compares { term < length (listed terms.now) → AllNamed (length (listed terms.now)) (written self.old) → OpBelow (length (listed terms.now)) op → (c : Composed) → compose (brought (view (listed terms.now) self.old) (op_of (tree (listed terms.now)) op)) (tree (listed terms.now) term) ≡ Some c → Writes (listed terms.now) (compared (length (view (listed terms.now) self.old)) c) result self.new }
+        ensures grows { Grows self.old self.new }
+        ensures compares { let ts = listed terms.now in IsTerm ts term → NamesTerms ts self.old → OpNames ts op → (c : Composed) → compose (brought (view ts self.old) (op_of (tree ts) op)) (tree ts term) ≡ Some c → Writes ts (compared (length (view ts self.old)) c) result self.new }
     {
         let slot = self.push(op, None)?;
         let made = self.put(terms, term)?;
@@ -34,8 +33,8 @@ impl Script {
 
     // Composes what opens the terms that a key seals, if it can be composed.
     fn unlock(&mut self, terms: &Terms<512>, key: TermId) -> Result<Option<Slot>, ScriptError>
-        ensures begins { Begins (written self.old) (written self.new) }
-        ensures unlocks { key < length (listed terms.now) → Key (tree (listed terms.now) key) → AllNamed (length (listed terms.now)) (written self.old) → Unlocks (listed terms.now) self.old key result self.new }
+        ensures grows { Grows self.old self.new }
+        ensures unlocks { let ts = listed terms.now in IsTerm ts key → Key (tree ts key) → NamesTerms ts self.old → Unlocks ts self.old key result self.new }
     {
         let Some(opener) = terms.opener(key) else {
             return Ok(None);
@@ -49,14 +48,14 @@ impl Script {
 
     // The walk, which calls itself on the halves of a pair and on the content of a sealed term, all of lower numbers. What was
     // written before stays in front, whatever the answer.
-    fn bring(
+    pub(super) fn bring(
         &mut self,
         terms: &Terms<512>,
         op: Instruction,
         term: TermId,
     ) -> Result<(), ScriptError>
-        ensures begins { Begins (written self.old) (written self.new) }
-        ensures walks { term < length (listed terms.now) → AllNamed (length (listed terms.now)) (written self.old) → OpBelow (length (listed terms.now)) op → Writes (listed terms.now) (walk (view (listed terms.now) self.old) (op_of (tree (listed terms.now)) op) (tree (listed terms.now) term)) result self.new }
+        ensures grows { Grows self.old self.new }
+        ensures walks { let ts = listed terms.now in IsTerm ts term → NamesTerms ts self.old → OpNames ts op → Writes ts (walk (view ts self.old) (op_of (tree ts) op) (tree ts term)) result self.new }
     {
         if self.missing(terms, term).is_none() {
             return self.bring_known(terms, op, term);
@@ -76,25 +75,6 @@ impl Script {
             },
             Form::Digest => Ok(()),
             Form::Entry => Ok(()),
-        }
-    }
-
-    // Walks a term, and takes back what was written if it is refused.
-    pub(super) fn walk_or_cut(
-        &mut self,
-        terms: &Terms<512>,
-        op: Instruction,
-        term: TermId,
-    ) -> Result<(), ScriptError>
-        ensures { term < length (listed terms.now) → AllNamed (length (listed terms.now)) (written self.old) → OpBelow (length (listed terms.now)) op → Wrote (listed terms.now) self.old (walk (view (listed terms.now) self.old) (op_of (tree (listed terms.now)) op) (tree (listed terms.now) term)) result self.new }
-    {
-        let len = self.len();
-        match self.bring(terms, op, term) {
-            Ok(()) => Ok(()),
-            Err(error) => {
-                self.cut(len);
-                Err(error)
-            }
         }
     }
 }

@@ -20,7 +20,7 @@ returns-then-is_none t c =
     let s = c.args.self.now in
     let w = c.bring_known.ensures in
     record {
-      begins = w.begins;
+      grows = w.grows;
       walks = λ lt k b.
           known_walk ts s c.args.op c.args.term c.bring_known.result c.bring_known.new.self
           (lacks_none ts s c.args.term c.missing.result c.if-is_none.ensures (c.missing.ensures lt (named_known _ _ k))) (w.compares lt k b);
@@ -36,7 +36,7 @@ returns-in_err-slot t c =
     let x = c.in_err-slot.field-0.0 in
     let p = c.in_err-slot.ensures in
     record {
-      begins = pushed_begins s s1 l (Err x) p;
+      grows = pushed_begins s s1 l (Err x) p;
       walks = λ lt k b.
           let none = lacks_some (listed ts) s c.args.term c.missing.result c.if-is_none.ensures (c.missing.ensures lt (named_known _ _ k)) in
           rw (q.1, q.2) (brought_stop (listed ts) (orderly ts) s c.args.op c.args.term lt none x s1 (pushed_writes (listed ts) s s1 l (Err x) p k (lt, b)));
@@ -51,7 +51,7 @@ returns-in_default t c =
     let n = c.in_ok-slot.slot in
     let p = c.in_ok-slot.ensures in
     record {
-      begins = pushed_begins s s1 l (Ok n) p;
+      grows = pushed_begins s s1 l (Ok n) p;
       walks = λ lt k b.
           let none = lacks_some (listed ts) s c.args.term c.missing.result c.if-is_none.ensures (c.missing.ensures lt (named_known _ _ k)) in
           let one = pushed_writes (listed ts) s s1 l (Ok n) p k (lt, b) in
@@ -70,7 +70,7 @@ returns-in-Digest t c =
     let v = c.in-Some in
     let node : node_at (listed ts) c.args.term ≡ Built Digest v.a v.b = v.ensures.1 ∙ ap (λ g. Built g v.a v.b) c.in-Digest.is in
     record {
-      begins = pushed_begins s s1 l (Ok n) p;
+      grows = pushed_begins s s1 l (Ok n) p;
       walks = λ lt k b.
           let none = lacks_some (listed ts) s c.args.term c.missing.result c.if-is_none.ensures (c.missing.ensures lt (named_known _ _ k)) in
           let one = pushed_writes (listed ts) s s1 l (Ok n) p k (lt, b) in
@@ -88,7 +88,7 @@ returns-in-Entry t c =
     let v = c.in-Some in
     let node : node_at (listed ts) c.args.term ≡ Built Entry v.a v.b = v.ensures.1 ∙ ap (λ g. Built g v.a v.b) c.in-Entry.is in
     record {
-      begins = pushed_begins s s1 l (Ok n) p;
+      grows = pushed_begins s s1 l (Ok n) p;
       walks = λ lt k b.
           let none = lacks_some (listed ts) s c.args.term c.missing.result c.if-is_none.ensures (c.missing.ensures lt (named_known _ _ k)) in
           let one = pushed_writes (listed ts) s s1 l (Ok n) p k (lt, b) in
@@ -109,7 +109,7 @@ returns-in_err-bring-in-Pair t c =
     let node : node_at (listed ts) c.args.term ≡ Built Pair v.a v.b = v.ensures.1 ∙ ap (λ g. Built g v.a v.b) c.in-Pair.is in
     let w = c.in_err-bring-in-Pair.ensures in
     record {
-      begins = begins_on (written s) (written s1) (written s2) (pushed_begins s s1 l (Ok n) p) w.begins;
+      grows = begins_on (written s) (written s1) (written s2) (pushed_begins s s1 l (Ok n) p) w.grows;
       walks = λ lt k b.
           let none = lacks_some (listed ts) s c.args.term c.missing.result c.if-is_none.ensures (c.missing.ensures lt (named_known _ _ k)) in
           let one = pushed_writes (listed ts) s s1 l (Ok n) p k (lt, b) in
@@ -132,7 +132,7 @@ returns-in_ok-bring-in-Pair t c =
     let w = c.in_ok-bring-in-Pair.ensures in
     let z = c.bring-in-Pair.ensures in
     record {
-      begins = begins_on (written s) (written s2) (written s3) (begins_on (written s) (written s1) (written s2) (pushed_begins s s1 l (Ok n) p) w.begins) z.begins;
+      grows = begins_on (written s) (written s2) (written s3) (begins_on (written s) (written s1) (written s2) (pushed_begins s s1 l (Ok n) p) w.grows) z.grows;
       walks = λ lt k b.
           let none = lacks_some (listed ts) s c.args.term c.missing.result c.if-is_none.ensures (c.missing.ensures lt (named_known _ _ k)) in
           let one = pushed_writes (listed ts) s s1 l (Ok n) p k (lt, b) in
@@ -157,7 +157,7 @@ returns-in_err-opener-in-Sealed t c =
     let node : node_at (listed ts) c.args.term ≡ Built Sealed v.a v.b = v.ensures.1 ∙ ap (λ g. Built g v.a v.b) c.in-Sealed.is in
     let w = c.in_err-opener-in-Sealed.ensures in
     record {
-      begins = begins_on (written s) (written s1) (written s2) (pushed_begins s s1 l (Ok n) p) w.begins;
+      grows = begins_on (written s) (written s1) (written s2) (pushed_begins s s1 l (Ok n) p) w.grows;
       walks = λ lt k b.
           let none = lacks_some (listed ts) s c.args.term c.missing.result c.if-is_none.ensures (c.missing.ensures lt (named_known _ _ k)) in
           let one = pushed_writes (listed ts) s s1 l (Ok n) p k (lt, b) in
@@ -180,7 +180,7 @@ returns-in-None t c =
     let node : node_at (listed ts) c.args.term ≡ Built Sealed v.a v.b = v.ensures.1 ∙ ap (λ g. Built g v.a v.b) c.in-Sealed.is in
     let w = c.in_ok-opener-in-Sealed.ensures in
     record {
-      begins = begins_on (written s) (written s1) (written s2) (pushed_begins s s1 l (Ok n) p) w.begins;
+      grows = begins_on (written s) (written s1) (written s2) (pushed_begins s s1 l (Ok n) p) w.grows;
       walks = λ lt k b.
           let none = lacks_some (listed ts) s c.args.term c.missing.result c.if-is_none.ensures (c.missing.ensures lt (named_known _ _ k)) in
           let one = pushed_writes (listed ts) s s1 l (Ok n) p k (lt, b) in
@@ -205,7 +205,7 @@ returns-in-Some-2 t c =
     let w = c.in_ok-opener-in-Sealed.ensures in
     let z = c.bring-in-Some-2.ensures in
     record {
-      begins = begins_on (written s) (written s2) (written s3) (begins_on (written s) (written s1) (written s2) (pushed_begins s s1 l (Ok n) p) w.begins) z.begins;
+      grows = begins_on (written s) (written s2) (written s3) (begins_on (written s) (written s1) (written s2) (pushed_begins s s1 l (Ok n) p) w.grows) z.grows;
       walks = λ lt k b.
           let none = lacks_some (listed ts) s c.args.term c.missing.result c.if-is_none.ensures (c.missing.ensures lt (named_known _ _ k)) in
           let one = pushed_writes (listed ts) s s1 l (Ok n) p k (lt, b) in

@@ -12,7 +12,7 @@ returns-in-Some t c =
     let s = c.args.self.now in
     let ts = c.args.terms.now in
     record {
-      begins = begins_here (written s);
+      grows = begins_here (written s);
       puts = λ l k. put_found (listed ts) (orderly ts) s c.args.term l k c.in-Some.slot c.in-Some.ensures;
       names = λ k. k;
     }
@@ -22,7 +22,7 @@ returns-in_default-parts t c =
     let s = c.args.self.now in
     let ts = c.args.terms.now in
     record {
-      begins = begins_here (written s);
+      grows = begins_here (written s);
       puts = λ l k. put_missing (listed ts) (orderly ts) s c.args.term l k c.in_default.ensures c.args.term s (c.in_default-parts.ensures l);
       names = λ k. k;
     }
@@ -36,7 +36,7 @@ returns-in_err-first t c =
     let q = err_from_is_err_and c.from_residual.result c.from_residual.ensures.1 in
     let e = c.in_err-first.ensures in
     record {
-      begins = e.begins;
+      grows = e.grows;
       puts = λ l k. rw (q.1, q.2) (first_stopped (listed ts) (orderly ts) s c.args.term l k c.in_default.ensures v.form v.a v.b p.1 c.in_err-first.field-0.0 c.put.new.self (e.puts (first_below (listed ts) (orderly ts) s c.args.term l k c.in_default.ensures v.form v.a v.b p.1) k));
       names = e.names;
     }
@@ -51,7 +51,7 @@ returns-in_err-second t c =
     let d = c.in_ok-first.ensures in
     let e = c.in_err-second.ensures in
     record {
-      begins = begins_on (written s) (written c.put.new.self) (written c.put-2.new.self) d.begins e.begins;
+      grows = begins_on (written s) (written c.put.new.self) (written c.put-2.new.self) d.grows e.grows;
       puts = λ l k.
           let la = first_below (listed ts) (orderly ts) s c.args.term l k c.in_default.ensures v.form v.a v.b p.1 in
           let lb = second_below (listed ts) (orderly ts) s c.args.term l k c.in_default.ensures v.form v.a v.b p.1 in
@@ -70,7 +70,7 @@ returns t c =
     let e = c.in_ok-second.ensures in
     let w = rw c.builder.ensures at c.push.ensures in
     record {
-      begins = begins_on (written s) (written c.put-2.new.self) (written c.push.new.self) (begins_on (written s) (written c.put.new.self) (written c.put-2.new.self) d.begins e.begins) (pushed_begins c.put-2.new.self c.push.new.self _ c.push.result w);
+      grows = begins_on (written s) (written c.put-2.new.self) (written c.push.new.self) (begins_on (written s) (written c.put.new.self) (written c.put-2.new.self) d.grows e.grows) (pushed_begins c.put-2.new.self c.push.new.self _ c.push.result w);
       puts = λ l k.
           let la = first_below (listed ts) (orderly ts) s c.args.term l k c.in_default.ensures v.form v.a v.b p.1 in
           let lb = second_below (listed ts) (orderly ts) s c.args.term l k c.in_default.ensures v.form v.a v.b p.1 in

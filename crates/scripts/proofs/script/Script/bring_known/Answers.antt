@@ -20,7 +20,7 @@ returns-in_err-slot c =
     let x = c.in_err-slot.field-0.0 in
     let p = c.in_err-slot.ensures in
     record {
-      begins = pushed_begins s s1 l (Err x) p;
+      grows = pushed_begins s s1 l (Err x) p;
       compares = λ lt k b m e. rw (q.1, q.2) (first_stop ts s c.args.op c.args.term m e x s1 (pushed_writes ts s s1 l (Err x) p k (tt, b)));
     }
 
@@ -36,7 +36,7 @@ returns-in_err-made c =
     let p = c.in_ok-slot.ensures in
     let w = c.in_err-made.ensures in
     record {
-      begins = begins_on (written s) (written s1) (written s2) (pushed_begins s s1 l (Ok n) p) w.begins;
+      grows = begins_on (written s) (written s1) (written s2) (pushed_begins s s1 l (Ok n) p) w.grows;
       compares = λ lt k b m e.
           let one = pushed_writes ts s s1 l (Ok n) p k (tt, b) in
           rw (q.1, q.2) (second_stop ts s c.args.op c.args.term m e n s1 p.0 one.0 c.in_err-made.field-0.0 s2 (w.puts lt (named_known _ _ one.1)));
@@ -59,7 +59,7 @@ returns-in_err-push c =
     let w = c.in_ok-made.ensures in
     let z = c.in_err-push.ensures in
     record {
-      begins = begins_on (written s) (written s2) (written s3) (begins_on (written s) (written s1) (written s2) (pushed_begins s s1 l (Ok n) p) w.begins) (pushed_begins s2 s3 l2 (Err x) z);
+      grows = begins_on (written s) (written s2) (written s3) (begins_on (written s) (written s1) (written s2) (pushed_begins s s1 l (Ok n) p) w.grows) (pushed_begins s2 s3 l2 (Err x) z);
       compares = λ lt k b m e.
           let one = pushed_writes ts s s1 l (Ok n) p k (tt, b) in
           rw (q.1, q.2) (writes_unit ts _ x s3
@@ -82,7 +82,7 @@ returns c =
     let w = c.in_ok-made.ensures in
     let z = c.in_ok-push.ensures in
     record {
-      begins = begins_on (written s) (written s2) (written s3) (begins_on (written s) (written s1) (written s2) (pushed_begins s s1 l (Ok n) p) w.begins) (pushed_begins s2 s3 l2 (Ok y) z);
+      grows = begins_on (written s) (written s2) (written s3) (begins_on (written s) (written s1) (written s2) (pushed_begins s s1 l (Ok n) p) w.grows) (pushed_begins s2 s3 l2 (Ok y) z);
       compares = λ lt k b m e.
           let one = pushed_writes ts s s1 l (Ok n) p k (tt, b) in
           compared_all ts s c.args.op c.args.term m e n s1 p.0 one.0 made s2 (w.puts lt (named_known _ _ one.1)) (w.names one.1) (Ok y) s3 z;

@@ -1,23 +1,17 @@
-use Rattle.std.proofs.Common.{◌≡◌, ◌<◌, length, take, is_some, ap, ◌∙◌, arith}
-use Rattle.scripts.specs.Lines.{slot_of}
+use Rattle.std.proofs.Common.{Bool, false, ◌∙◌}
+use lib.ListN.{length-replicate}
+use Rattle.terms.proofs.Composed.{none_marked}
+use Rattle.scripts.specs.View.{written}
 use Rattle.scripts.proofs.Slots.{marked_more}
 use Rattle.scripts.proofs.script.Script.held.Goals as goal
 
-pub loop-slot-init : goal.loop-slot-init
-loop-slot-init c = ((λ t l. c.unmarked-marks.ensures.none t), c.unmarked-marks.ensures.size)
+pub loop-line-init : goal.loop-line-init
+loop-line-init c = record { marks = λ t l. none_marked 512 t; size = length-replicate {A = Bool} 512 false }
 
-pub loop-slot-preserved : goal.loop-slot-preserved
-loop-slot-preserved c =
-    let s = c.args.self.now in
-    let i = c.loop-slot.slot in
-    let l : i < length s.lines = omega (arith, s.size, s.few, c.loop-slot-test.true) in
-    ((λ t h. c.mark.ensures.marks t h ∙ marked_more s.lines i t _ l (c.loop-slot.invariant.0 t h)), c.mark.ensures.size ∙ c.loop-slot.invariant.1)
-
-pub returns : goal.returns
-returns c =
-    let s = c.args.self.now in
-    let e : c.loop-slot.slot ≡ s.len = omega (arith, c.loop-slot.auto.slot-end, c.loop-slot-test.false) in
+pub loop-line-preserved : goal.loop-line-preserved
+loop-line-preserved c =
+    let i = c.loop-line.invariant in
     record {
-      marks = λ t h. c.loop-slot.invariant.0 t h ∙ ap (λ n. is_some (slot_of 0 (take n s.lines) t)) e;
-      size = c.loop-slot.invariant.1;
+      marks = λ t l. c.mark.ensures.marks t l ∙ marked_more (written c.args.self.now) c.loop-line.line-index t _ c.loop-line-test.true (i.marks t l);
+      size = c.mark.ensures.size ∙ i.size;
     }

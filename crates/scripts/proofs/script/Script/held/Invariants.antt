@@ -1,6 +1,6 @@
-use Rattle.std.proofs.Common.{◌≡◌, ℕ, ◌<◌, false, length, get_or, take, is_some}
-use Rattle.scripts.specs.Lines.{slot_of}
+use Rattle.std.proofs.Common.{take}
+use Rattle.scripts.specs.Composing.{HeldMarks}
 use Rattle.scripts.proofs.script.Script.held.Given as goal
 
-abbrev pub invariant-loop-slot : goal.invariant-loop-slot
-invariant-loop-slot l = ((t : ℕ) → t < 512 → get_or l.marks t false ≡ is_some (slot_of 0 (take l.slot l.self.lines) t)) × (length l.marks ≡ 512)
+abbrev pub invariant-loop-line : goal.invariant-loop-line
+invariant-loop-line l = HeldMarks (take l.line-index l.line-items) l.marks

@@ -11,7 +11,7 @@ returns-in_err-with c =
     let q = err_from_is_err_and c.from_residual.result c.from_residual.ensures.1 in
     let e = c.in_err-with.ensures in
     record {
-      begins = e.begins;
+      grows = e.grows;
       longer = rw q.1 tt;
       opens = λ lo lc k w t. rw (q.1, q.2) (open_stopped (listed c.args.terms.now) c.args.self.now c.args.slot c.args.opener c.args.content w t c.in_err-with.field-0.0 c.put.new.self (e.puts lo (named_known _ _ k)));
     }
@@ -23,7 +23,7 @@ returns c =
     let s2 = c.push.new.self in
     let e = c.in_ok-with.ensures in
     record {
-      begins = begins_on (written s) (written s1) (written s2) e.begins (pushed_begins s1 s2 _ c.push.result c.push.ensures);
-      longer = longer_after s s1 s2 c.push.result e.begins (pushed_longer s1 s2 _ c.push.result c.push.ensures);
+      grows = begins_on (written s) (written s1) (written s2) e.grows (pushed_begins s1 s2 _ c.push.result c.push.ensures);
+      longer = longer_after s s1 s2 c.push.result e.grows (pushed_longer s1 s2 _ c.push.result c.push.ensures);
       opens = λ lo lc k w t. open_written (listed c.args.terms.now) s c.args.slot c.args.opener c.args.content w t c.in_ok-with.with s1 (e.puts lo (named_known _ _ k)) (e.names k) lc c.push.result s2 c.push.ensures;
     }

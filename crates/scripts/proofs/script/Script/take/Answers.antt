@@ -11,7 +11,7 @@ returns-in-LeftHalf c =
     let s1 = c.push.new.self in
     let r = c.push.result in
     record {
-      begins = pushed_begins s s1 _ r c.push.ensures;
+      grows = pushed_begins s s1 _ r c.push.ensures;
       longer = pushed_longer s s1 _ r c.push.ensures;
       takes = λ lt k w e.
           half_writes (listed c.args.terms.now) s s1 c.args.taking _ _ r c.in-LeftHalf.is c.push.ensures k
@@ -24,7 +24,7 @@ returns-in-RightHalf c =
     let s1 = c.push-in-RightHalf.new.self in
     let r = c.push-in-RightHalf.result in
     record {
-      begins = pushed_begins s s1 _ r c.push-in-RightHalf.ensures;
+      grows = pushed_begins s s1 _ r c.push-in-RightHalf.ensures;
       longer = pushed_longer s s1 _ r c.push-in-RightHalf.ensures;
       takes = λ lt k w e.
           half_writes (listed c.args.terms.now) s s1 c.args.taking _ _ r c.in-RightHalf.is c.push-in-RightHalf.ensures k

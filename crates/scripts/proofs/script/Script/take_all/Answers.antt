@@ -17,7 +17,7 @@ pub loop-taking-preserved : goal.loop-taking-preserved
 loop-taking-preserved c =
     let ts = listed c.args.terms.now in
     let e = c.in_ok-take.ensures in (
-      begins_on (written c.args.self.now) (written c.loop-taking.self) (written c.take.new.self) c.loop-taking.invariant.0 e.begins,
+      begins_on (written c.args.self.now) (written c.loop-taking.self) (written c.take.new.self) c.loop-taking.invariant.0 e.grows,
       λ k.
           let i = c.loop-taking.invariant.1 k in
           let n = c.in-Some.ensures i.0 in
@@ -30,7 +30,7 @@ returns-in_err-take c =
     let q = err_from_is_err_and c.from_residual.result c.from_residual.ensures.1 in
     let e = c.in_err-take.ensures in
     record {
-      begins = begins_on (written c.args.self.now) (written c.loop-taking.self) (written c.take.new.self) c.loop-taking.invariant.0 e.begins;
+      grows = begins_on (written c.args.self.now) (written c.loop-taking.self) (written c.take.new.self) c.loop-taking.invariant.0 e.grows;
       takes = λ k.
           let i = c.loop-taking.invariant.1 k in
           let n = c.in-Some.ensures i.0 in
@@ -41,7 +41,7 @@ pub returns : goal.returns
 returns c =
     let ts = listed c.args.terms.now in
     record {
-      begins = c.loop-taking.invariant.0;
+      grows = c.loop-taking.invariant.0;
       takes = λ k.
           let i = c.loop-taking.invariant.1 k in
           (saturate_done (view ts c.args.self.now) (view ts c.loop-taking.self) i.1 (c.in_default.ensures i.0), i.0);

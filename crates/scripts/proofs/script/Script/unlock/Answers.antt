@@ -12,7 +12,7 @@ pub returns-in_default : goal.returns-in_default
 returns-in_default c =
     let ts = c.args.terms.now in
     record {
-      begins = begins_here (written c.args.self.now);
+      grows = begins_here (written c.args.self.now);
       unlocks = λ l k a. no_opener (listed ts) (orderly ts) c.args.self.now c.args.key l k a c.in_default.ensures;
     }
 
