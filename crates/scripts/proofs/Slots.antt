@@ -1,6 +1,7 @@
 -- The lowest slot that holds a term number.
-use Rattle.std.proofs.Common.{◌≡◌, ℕ, zero, suc, ◌+◌, ◌<◌, ◌≤◌, Bool, true, false, cond, ◌||◌, List, [], ◌∷◌, ◌++◌, length, get_or, take, is_some, Some, None, sym, refl, ap, ◌∙◌, arith, get_or-take}
+use Rattle.std.proofs.Common.{◌≡◌, ℕ, zero, suc, ◌+◌, ◌<◌, ◌≤◌, Bool, true, false, cond, ◌||◌, List, [], ◌∷◌, ◌++◌, length, get_or, take, is_some, Some, None, Option, MatchOption, sym, refl, ap, ◌∙◌, arith}
 use Rattle.std.proofs.lemmas.List.{take_more}
+use Rattle.std.specs.List.{HoldsAt, AllWithin}
 use Rattle.scripts.specs.declared.instruction.Line.{Line}
 use Rattle.scripts.specs.Holding.{no_line, NoneBelow}
 use Rattle.scripts.specs.Lines.{is_number, slot_of}
@@ -15,9 +16,12 @@ pub unfound : (n t : ℕ) (ls : List Line) → NoneBelow ls (length ls) t → sl
 unfound n t [] none = refl
 unfound n t (x ∷ ls) none = rw (none 0 (omega arith)) (unfound (n + 1) t ls (λ k m. none (suc k) (omega arith)))
 
--- the same of the first lines
-pub none_taken : (ls : List Line) (m n t : ℕ) → n ≤ m → NoneBelow ls n t → NoneBelow (take m ls) n t
-none_taken ls m n t le none k l = ap (λ v. is_number t v.holds) (get_or-take m ls k no_line (omega arith)) ∙ none k l
+-- what a search for the first slot that holds the term answers
+pub slot_first : (t : ℕ) (ls : List Line) (r : Option ℕ)
+    → MatchOption r (AllWithin (λ l. is_number t l.holds ≡ false) ls 0 (length ls)) (λ i. (i < length ls) × HoldsAt (λ l. is_number t l.holds ≡ true) ls i × AllWithin (λ l. is_number t l.holds ≡ false) ls 0 i)
+    → r ≡ slot_of 0 ls t
+slot_first t ls None h = sym (unfound 0 t ls (λ k l. h k no_line (omega arith) l))
+slot_first t ls (Some i) h = sym (found 0 i t ls h.0 (λ k l. h.2 k no_line (omega arith) l) (h.1 no_line) ∙ ap Some (omega arith))
 
 or_more : (n t : ℕ) (ls : List Line) (l : Line) → is_some (slot_of n (ls ++ (l ∷ [])) t) ≡ (is_some (slot_of n ls t) || is_number t l.holds)
 or_more n t [] l = last (is_number t l.holds)

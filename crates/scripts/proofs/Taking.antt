@@ -1,5 +1,5 @@
 -- What is taken from a term by numbers is what the rules take.
-use Rattle.std.proofs.Common.{◌≡◌, ℕ, zero, suc, ◌+◌, ◌<◌, ◌≤◌, Bool, true, false, cond, ◌⊎◌, List, [], ◌∷◌, length, get_or, drop, is_some, Some, None, Option, sym, refl, ap, ◌∙◌, subst, inl, inr, add-one, arith, length-take-le, drop-cons, get_or-take}
+use Rattle.std.proofs.Common.{◌≡◌, ℕ, zero, suc, ◌+◌, ◌<◌, ◌≤◌, Bool, true, false, cond, ◌⊎◌, List, [], ◌∷◌, length, get_or, drop, is_some, Some, None, Option, sym, refl, ap, ◌∙◌, subst, inl, inr, add-one, arith, drop-cons}
 use mathlib.Core.Bool.{false≢true}
 use lib.Seq.{drop-nil}
 use Rattle.deduction.specs.Term.{party, number, shared, public, table, function, Term, name, built, mate, opener, Key, Formed}
@@ -19,7 +19,7 @@ use Rattle.rules.proofs.Find.{find_holds, holds_held}
 use Rattle.scripts.specs.declared.instruction.Line.{Line}
 use Rattle.scripts.specs.declared.instruction.Taking.{Taking}
 use Rattle.scripts.specs.declared.script.Script.{Script}
-use Rattle.scripts.specs.Composing.{view, Below, LineBelow, AllNamed}
+use Rattle.scripts.specs.Composing.{view, Below, LineBelow, AllNamed, NamesTerms}
 use Rattle.scripts.specs.Holding.{no_line}
 use Rattle.scripts.specs.Lines.{held_of, script_of}
 use Rattle.scripts.specs.View.{written}
@@ -170,26 +170,19 @@ pub held_takes : (ts : List TermNode) (v : RuleScript) (n : ℕ) (o : Option ℕ
 held_takes ts v n o t r e x = subst (λ p. Takes ts v (take_held v n (held_of (tree ts) p)) r) (sym e) x
 
 -- one slot of a script
-module _ (ts : List TermNode) (s : Script) (k : AllNamed (length ts) (written s)) (i : ℕ) (l : i < s.len) where
-  at_line : get_or (written s) i no_line ≡ get_or s.lines i no_line
-  at_line = get_or-take s.len s.lines i no_line l
-
-  within : i < length (written s)
-  within = omega (arith, l, length-take-le s.len s.lines (omega (arith, s.size, s.few)))
-
-  pub line_below : Below (length ts) (get_or s.lines i no_line).holds
-  line_below = rw at_line at (held_below (length ts) (written s) i k within)
+module _ (ts : List TermNode) (s : Script) (k : NamesTerms ts s) (i : ℕ) (l : i < length (written s)) where
+  pub line_below : Below (length ts) (get_or (written s) i no_line).holds
+  line_below = held_below (length ts) (written s) i k l
 
   module _ (so_far : take_apart (view ts s) ≡ take_from (view ts s) i (script_of (tree ts) (drop i (written s)))) where
-    pub nothing_next : take_held (view ts s) i (held_of (tree ts) (get_or s.lines i no_line).holds) ≡ None
+    pub nothing_next : take_held (view ts s) i (held_of (tree ts) (get_or (written s) i no_line).holds) ≡ None
         → take_apart (view ts s) ≡ take_from (view ts s) (i + 1) (script_of (tree ts) (drop (i + 1) (written s)))
-    nothing_next e = so_far ∙ nothing_here (tree ts) (view ts s) (written s) i within (ap (λ x. take_held (view ts s) i (held_of (tree ts) x.holds)) at_line ∙ e)
+    nothing_next e = so_far ∙ nothing_here (tree ts) (view ts s) (written s) i l e
 
-    pub taken_next : (t : Taking) → Takes ts (view ts s) (take_held (view ts s) i (held_of (tree ts) (get_or s.lines i no_line).holds)) (Some t)
+    pub taken_next : (t : Taking) → Takes ts (view ts s) (take_held (view ts s) i (held_of (tree ts) (get_or (written s) i no_line).holds)) (Some t)
         → Takes ts (view ts s) (take_apart (view ts s)) (Some t)
     taken_next t x =
-        let q : take_held (view ts s) i (held_of (tree ts) (get_or (written s) i no_line).holds) ≡ take_held (view ts s) i (held_of (tree ts) (get_or s.lines i no_line).holds) = ap (λ y. take_held (view ts s) i (held_of (tree ts) y.holds)) at_line in
-        let e = so_far ∙ taken_here (tree ts) (view ts s) (written s) i within x.2.0 (q ∙ x.2.1) ∙ q in
+        let e = so_far ∙ taken_here (tree ts) (view ts s) (written s) i l x.2.0 x.2.1 in
         subst (λ o. Takes ts (view ts s) o (Some t)) (sym e) x
 
 drop_all : {A : Type 0} (xs : List A) (i : ℕ) → length xs ≤ i → drop i xs ≡ []
@@ -198,6 +191,5 @@ drop_all (x ∷ xs) zero l = absurd (omega arith)
 drop_all (x ∷ xs) (suc i) l = drop_all xs i (omega arith)
 
 -- nothing is left past the last slot
-pub nothing_left : (ts : List TermNode) (s : Script) (i : ℕ) → s.len ≤ i → take_apart (view ts s) ≡ take_from (view ts s) i (script_of (tree ts) (drop i (written s))) → take_apart (view ts s) ≡ None
-nothing_left ts s i l e =
-    e ∙ ap (λ r. take_from (view ts s) i (script_of (tree ts) r)) (drop_all (written s) i (omega (arith, l, length-take-le s.len s.lines (omega (arith, s.size, s.few)))))
+pub nothing_left : (ts : List TermNode) (s : Script) (i : ℕ) → length (written s) ≤ i → take_apart (view ts s) ≡ take_from (view ts s) i (script_of (tree ts) (drop i (written s))) → take_apart (view ts s) ≡ None
+nothing_left ts s i l e = e ∙ ap (λ r. take_from (view ts s) i (script_of (tree ts) r)) (drop_all (written s) i l)

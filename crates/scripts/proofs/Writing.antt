@@ -85,7 +85,7 @@ pub saturate_done : (v0 v : RuleScript) → ((u : RuleScript) → Saturates v u 
 saturate_done v0 v on e = sym (saturates_one (saturate_saturates v0) (on v (done e)))
 
 pub written_few : (s : Script) → length (written s) ≤ 512
-written_few s = omega (arith, s.few, length-take-le s.len s.lines (omega (arith, s.size, s.few)))
+written_few s = omega (arith, s.lines.few, length-take-le s.lines.len s.lines.cells (omega (arith, s.lines.size, s.lines.few)))
 
 -- a step of saturating: what saturates the script after it saturates the one before
 module _ (ts : List TermNode) (s0 s s1 : Script) (on : (u : RuleScript) → Saturates (view ts s) u → Saturates (view ts s0) u) (t : Taking)

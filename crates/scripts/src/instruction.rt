@@ -1,6 +1,6 @@
 // Instructions, and why a script is not written.
 ghost use Rattle.std.specs.Prelude.{◌≡◌};
-ghost use Rattle.scripts.specs.Lines.{building};
+ghost use Rattle.scripts.specs.Lines.{building, is_number};
 
 use terms::{Form, TermId};
 
@@ -33,6 +33,15 @@ pub enum Instruction {
 pub struct Line {
     pub op: Instruction,
     pub holds: Option<TermId>,
+}
+
+impl Line {
+    // Whether the slot holds the term.
+    pub(crate) fn is_holding(&self, term: TermId) -> bool
+        ensures { result ≡ is_number term self.now.holds }
+    {
+        self.holds == Some(term)
+    }
 }
 
 // A script would have more than 512 instructions, or a term cannot be composed for want of another.

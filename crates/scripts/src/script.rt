@@ -1,7 +1,6 @@
 // A script: its instructions in the order in which they were written.
-ghost use Rattle.std.specs.Prelude.{◌≡◌, ◌≤◌, length};
-
 use crate::instruction::Line;
+use bounded::BoundedVec;
 
 mod compose;
 mod lines;
@@ -11,8 +10,5 @@ mod writing;
 
 #[derive(Clone, Copy)]
 pub struct Script {
-    lines: [Line; 512],
-    len: usize,
-    ghost size: { length lines ≡ 512 },
-    ghost few: { len ≤ 512 },
+    lines: BoundedVec<Line, 512>,
 }

@@ -87,8 +87,8 @@ impl Script {
         ensures { let ts = listed terms.now in NamesTerms ts self.now → Takes ts (view ts self.now) (take_apart (view ts self.now)) result }
     {
         let judged = self.judged(terms);
-        for slot in 0..self.len {
-            if let Some(taking) = take_held(terms, &judged, slot, self.lines[slot].holds) {
+        for (slot, line) in self.lines.as_slice().iter().enumerate() {
+            if let Some(taking) = take_held(terms, &judged, slot, line.holds) {
                 return Some(taking);
             }
         }
