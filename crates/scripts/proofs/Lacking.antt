@@ -1,5 +1,5 @@
 -- What is missing by numbers is what is missing by the rules.
-use Rattle.std.proofs.Common.{◌≡◌, ℕ, ◌<◌, ◌≤◌, Bool, true, false, ◌⊎◌, List, [], ◌∷◌, length, get_or, take, is_some, Some, None, Err, Option, sym, refl, ap, ◌∙◌, inl, inr, arith, take_at}
+use Rattle.std.proofs.Common.{◌≡◌, ℕ, ◌<◌, ◌≤◌, Bool, true, false, ◌⊎◌, List, [], ◌∷◌, length, get_or, is_some, Some, None, Option, sym, refl, ap, ◌∙◌, inl, inr, arith}
 use mathlib.Core.Bool.{false≢true}
 use Rattle.deduction.specs.Term.{Term, name, built, mate, In, among}
 use Rattle.deduction.specs.Compose.{Composable}
@@ -14,10 +14,8 @@ use Rattle.rules.specs.Compose.{Composed, compose, missing, or_else}
 use Rattle.rules.proofs.Compose.{composes_decides, missing_right, MissingRight}
 use Rattle.rules.proofs.Find.{find_holds, held_find, holds_held}
 use Rattle.scripts.specs.declared.instruction.Line.{Line}
-use Rattle.scripts.specs.declared.instruction.ScriptError.{ScriptError}
-use Rattle.scripts.specs.declared.instruction.ScriptError.TheVariants.{Full, Missing}
 use Rattle.scripts.specs.declared.script.Script.{Script}
-use Rattle.scripts.specs.Composing.{view, Below, AllKnown, Begins, HeldMarks, Lacks, Puts, Composes}
+use Rattle.scripts.specs.Composing.{view, Below, AllKnown, HeldMarks, Lacks}
 use Rattle.scripts.specs.Lines.{held_of, script_of}
 use Rattle.scripts.specs.View.{written}
 use Rattle.scripts.proofs.View.{slot_find}
@@ -104,12 +102,3 @@ module _ (ts : List TermNode) (ok : Orderly ts) (few : length ts ≤ 512) (s : S
       nothing (Some c) e =
           let d = (composes_decides (view ts s) (tree ts t)).0 (ap is_some e) in
           absurd (missing_composable (held_terms ts marks) (tree ts t) (tree ts x) m.2 (composable_map (among (held (view ts s))) (among (held_terms ts marks)) to_marks (tree ts t) d))
-
--- what a script began with is left by a cut
-pub cut_back : (ls ms : List Line) → Begins ls ms → take (length ls) ms ≡ ls
-cut_back ls ms b = ap (take (length ls)) b.1 ∙ take_at ls b.0 (length ls) refl
-
--- what can be composed is stopped only where it is too long, and then nothing is written
-pub not_composed : (ts : List TermNode) (s s1 s2 : Script) (t : ℕ) (e : ScriptError) → Lacks ts s t None → Puts ts s t (Err e) s1 → Begins (written s) (written s1) → written s2 ≡ take (length (written s)) (written s1) → Composes ts s t (Err e) s2
-not_composed ts s s1 s2 t Full l p b c = ((l.0, l.1, p l.0 l.1), c ∙ cut_back (written s) (written s1) b)
-not_composed ts s s1 s2 t (Missing m) l p b c = let z : ◌≡◌ {A = ℕ} 0 1 = cc (l.1, p) in absurd (omega (arith, z))

@@ -165,10 +165,6 @@ module _ (T : ℕ → Term) (v : RuleScript) (ls : List Line) (i : ℕ) (l : i <
   pub taken_here : (w : RuleScript) → take_held v i (held_of T (get_or ls i no_line).holds) ≡ Some w → take_from v i (script_of T (drop i ls)) ≡ take_held v i (held_of T (get_or ls i no_line).holds)
   taken_here w e = from_here ∙ ap (λ o. first_of o (take_from v (i + 1) (script_of T (drop (i + 1) ls)))) e ∙ sym e
 
-pub held_takes : (ts : List TermNode) (v : RuleScript) (n : ℕ) (o : Option ℕ) (t : ℕ) (r : Option Taking) → o ≡ Some t → Takes ts v (take_term v n (tree ts t)) r
-    → Takes ts v (take_held v n (held_of (tree ts) o)) r
-held_takes ts v n o t r e x = subst (λ p. Takes ts v (take_held v n (held_of (tree ts) p)) r) (sym e) x
-
 -- one slot of a script
 module _ (ts : List TermNode) (s : Script) (k : NamesTerms ts s) (i : ℕ) (l : i < length (written s)) where
   pub line_below : Below (length ts) (get_or (written s) i no_line).holds

@@ -25,11 +25,11 @@ use Rattle.scripts.specs.declared.instruction.Instruction.TheVariants.{Left, Rig
 use Rattle.scripts.specs.declared.instruction.ScriptError.{ScriptError}
 use Rattle.scripts.specs.declared.instruction.ScriptError.TheVariants.{Full, Missing}
 use Rattle.scripts.specs.declared.script.Script.{Script}
-use Rattle.scripts.specs.Composing.{view, AllNamed, Puts, Lacks}
+use Rattle.scripts.specs.Composing.{view, AllNamed, IsTerm, OpNames, HoldsTerms, NamesTerms, Puts, Lacks}
 use Rattle.scripts.specs.Lines.{op_of}
 use Rattle.scripts.specs.View.{written, Pushed}
 use Rattle.scripts.specs.Writing.{Writes, Unlocks}
-use Rattle.scripts.proofs.View.{length_view}
+use Rattle.scripts.proofs.View.{length_view, named_known}
 use Rattle.scripts.proofs.Lacking.{composable_composed}
 use Rattle.scripts.proofs.Composing.{grows_length}
 use Rattle.scripts.proofs.Judging.{held_in}
@@ -108,8 +108,29 @@ module _ (ts : List TermNode) (ok : Orderly ts) (s : Script) (key : ℕ) (lk : k
     opener_stopped Full s1 l p = (l.0, ap (compose (view ts s)) (sym opens.3) ∙ l.1, p l.0 l.1)
     opener_stopped (Missing m) s1 l p = let z : ◌≡◌ {A = ℕ} 0 1 = cc (l.1, p) in absurd (omega arith)
 
--- the walk of a term that cannot be composed
-module _ (ts : List TermNode) (ok : Orderly ts) (s : Script) (op : Instruction) (t : ℕ) (lt : t < length ts) (none : compose (view ts s) (tree ts t) ≡ None) where
+-- an instruction that brings in a term which cannot be composed
+pub record Unbuilt (ts : List TermNode) (s : Script) (op : Instruction) (t : ℕ) : Type 0 where
+  pub ok : Orderly ts
+  pub term : IsTerm ts t
+  pub none : compose (view ts s) (tree ts t) ≡ None
+
+pub unbuilt : {ts : List TermNode} (ok : Orderly ts) (s : Script) (op : Instruction) (t : ℕ) (r : Option ℕ) → is_some r ≡ true → (IsTerm ts t → HoldsTerms ts s → Lacks ts s t r)
+    → IsTerm ts t → NamesTerms ts s → Unbuilt ts s op t
+unbuilt {ts} ok s op t r e l lt k = record { ok = ok; term = lt; none = lacks_some ts s t r e (l lt (named_known _ _ k)) }
+
+-- it is written, under the slot n
+pub record Brought (ts : List TermNode) (s : Script) (op : Instruction) (t n : ℕ) (s1 : Script) : Type 0 where
+  pub at : n ≡ length (written s)
+  pub one : view ts s1 ≡ (view ts s then line (op_of (tree ts) op) (Some (tree ts t)))
+  pub names : NamesTerms ts s1
+
+pub brought_at : {ts : List TermNode} {s : Script} {op : Instruction} {t : ℕ} → Unbuilt ts s op t → (n : ℕ) (s1 : Script) → Pushed s (record { op = op; holds = Some t }) (Ok n) s1
+    → NamesTerms ts s → OpNames ts op → Brought ts s op t n s1
+brought_at {ts} {s} {op} {t} u n s1 p k b =
+    let w = pushed_writes ts s s1 (record { op = op; holds = Some t }) (Ok n) p k (u.term, b) in
+    record { at = p.0; one = w.0; names = w.1 }
+
+module _ {ts : List TermNode} {s : Script} {op : Instruction} {t : ℕ} (u : Unbuilt ts s op t) where
   abbrev v1 : RuleScript
   v1 = view ts s then line (op_of (tree ts) op) (Some (tree ts t))
 
@@ -117,7 +138,7 @@ module _ (ts : List TermNode) (ok : Orderly ts) (s : Script) (op : Instruction) 
   goal = walk (view ts s) (op_of (tree ts) op) (tree ts t)
 
   then_none : compose (view ts s then line (op_of (tree ts) op) None) (tree ts t) ≡ None
-  then_none = uncomposed_then (view ts s) (op_of (tree ts) op) (tree ts t) none
+  then_none = uncomposed_then (view ts s) (op_of (tree ts) op) (tree ts t) u.none
 
   walk_leaf_name : (u : Term) → tree ts t ≡ u → ((f : Form) (a b : Term) → u ≡ built f a b → ⊥) → goal ≡ v1
   walk_leaf_name (name k i) e nb =
@@ -134,29 +155,29 @@ module _ (ts : List TermNode) (ok : Orderly ts) (s : Script) (op : Instruction) 
   not_built nb f x y e = go (node_at ts t) refl
     where
       go : (r : TermNode) → node_at ts t ≡ r → ⊥
-      go (Name k i) q = let w = tree_at ts ok.lower t (Name k i) lt q in let z : ◌≡◌ {A = ℕ} 0 1 = cc in omega arith
+      go (Name k i) q = let w = tree_at ts u.ok.lower t (Name k i) u.term q in let z : ◌≡◌ {A = ℕ} 0 1 = cc in omega arith
       go (Built g a b) q = nb g a b q
-      go (A-MATE k) q = let w = tree_at ts ok.lower t (A-MATE k) lt q in let z : ◌≡◌ {A = ℕ} 0 1 = cc in omega arith
+      go (A-MATE k) q = let w = tree_at ts u.ok.lower t (A-MATE k) u.term q in let z : ◌≡◌ {A = ℕ} 0 1 = cc in omega arith
 
   pub walk_leaf : ((g : NodeForm) (a b : ℕ) → node_at ts t ≡ Built g a b → ⊥) → goal ≡ v1
   walk_leaf nb = walk_leaf_name (tree ts t) refl (not_built nb)
 
-  module _ (g : NodeForm) (a b : ℕ) (node : node_at ts t ≡ Built g a b) where
+  module _ {g : NodeForm} {a b : ℕ} (node : node_at ts t ≡ Built g a b) where
     is_built : tree ts t ≡ built (form_of g) (tree ts a) (tree ts b)
-    is_built = tree_at ts ok.lower t (Built g a b) lt node
+    is_built = tree_at ts u.ok.lower t (Built g a b) u.term node
 
     pub a_below : a < length ts
-    a_below = let p = parts_lower ts ok.lower t g a b lt node in omega arith
+    a_below = let p = parts_lower ts u.ok.lower t g a b u.term node in omega (arith, p.0, p.1, u.term)
 
     pub b_below : b < length ts
-    b_below = let p = parts_lower ts ok.lower t g a b lt node in omega arith
+    b_below = let p = parts_lower ts u.ok.lower t g a b u.term node in omega (arith, p.0, p.1, u.term)
 
     walk_built : goal ≡ apart (form_of g) (length (view ts s)) (tree ts b) (λ x o. walk x o (tree ts a)) (λ x o. walk x o (tree ts b)) v1
     walk_built =
         ap (walk (view ts s) (op_of (tree ts) op)) is_built
         ∙ ap (walked (view ts s) (op_of (tree ts) op) (built (form_of g) (tree ts a) (tree ts b)) (apart (form_of g) (length (view ts s)) (tree ts b) (λ x o. walk x o (tree ts a)) (λ x o. walk x o (tree ts b))))
         (ap (compose (view ts s then line (op_of (tree ts) op) None)) (sym is_built) ∙ then_none)
-        ∙ ap (λ u. apart (form_of g) (length (view ts s)) (tree ts b) (λ x o. walk x o (tree ts a)) (λ x o. walk x o (tree ts b)) (view ts s then line (op_of (tree ts) op) (Some u))) (sym is_built)
+        ∙ ap (λ y. apart (form_of g) (length (view ts s)) (tree ts b) (λ x o. walk x o (tree ts a)) (λ x o. walk x o (tree ts b)) (view ts s then line (op_of (tree ts) op) (Some y))) (sym is_built)
 
   apart_long : (f : Form) (n : ℕ) (x y : Term) (v : RuleScript) → length v ≤ length (apart f n y (λ w o. walk w o x) (λ w o. walk w o y) v)
   apart_long pair n x y v =
@@ -180,30 +201,33 @@ module _ (ts : List TermNode) (ok : Orderly ts) (s : Script) (op : Instruction) 
       go : (r : TermNode) → node_at ts t ≡ r → length v1 ≤ length goal
       go (Name k i) e = omega (arith, ap length (walk_leaf (λ g a b q. let z : ◌≡◌ {A = ℕ} 0 1 = cc in omega arith)))
       go (Built g a b) e =
-          omega (arith, ap length (walk_built g a b e), apart_long (form_of g) (length (view ts s)) (tree ts a) (tree ts b) v1)
+          omega (arith, ap length (walk_built e), apart_long (form_of g) (length (view ts s)) (tree ts a) (tree ts b) v1)
       go (A-MATE k) e = omega (arith, ap length (walk_leaf (λ g a b q. let z : ◌≡◌ {A = ℕ} 0 1 = cc in omega arith)))
 
   -- the instruction itself finds no room
-  pub brought_stop : (x : ScriptError) (s1 : Script) → Writes {A = ℕ} ts v1 (Err x) s1 → Writes {A = Unit {0}} ts goal (Err x) s1
-  brought_stop Full s1 w = omega (arith, w, v1_long)
-  brought_stop (Missing m) s1 w = absurd w
+  pub brought_stop : (x : ScriptError) (s1 : Script) → Pushed s (record { op = op; holds = Some t }) (Err x) s1 → NamesTerms ts s → OpNames ts op → Writes {A = Unit {0}} ts goal (Err x) s1
+  brought_stop x s1 p k b = by x (pushed_writes ts s s1 (record { op = op; holds = Some t }) (Err x) p k (u.term, b))
+    where
+      by : (x : ScriptError) → Writes {A = ℕ} ts v1 (Err x) s1 → Writes {A = Unit {0}} ts goal (Err x) s1
+      by Full w = omega (arith, w, v1_long)
+      by (Missing m) w = absurd w
 
-  module _ (n : ℕ) (s1 : Script) (at : n ≡ length (written s)) (one : view ts s1 ≡ v1) (known : AllNamed (length ts) (written s1)) where
+  module _ {n : ℕ} {s1 : Script} (h : Brought ts s op t n s1) where
     slot_is : length (view ts s) ≡ n
-    slot_is = length_view (tree ts) (written s) ∙ sym at
+    slot_is = length_view (tree ts) (written s) ∙ sym h.at
 
     -- nothing is taken apart
     pub walk_here : goal ≡ v1 → Writes {A = Unit {0}} ts goal (Ok tt) s1
-    walk_here e = (one ∙ sym e, known)
+    walk_here e = (h.one ∙ sym e, h.names)
 
-    module _ (a b : ℕ) where
-      pub walk_other : (g : NodeForm) → node_at ts t ≡ Built g a b → (apart (form_of g) (length (view ts s)) (tree ts b) (λ x o. walk x o (tree ts a)) (λ x o. walk x o (tree ts b)) v1 ≡ v1) → Writes {A = Unit {0}} ts goal (Ok tt) s1
-      walk_other g node e = walk_here (walk_built g a b node ∙ e)
+    module _ {a b : ℕ} where
+      pub walk_other : {g : NodeForm} → node_at ts t ≡ Built g a b → (apart (form_of g) (length (view ts s)) (tree ts b) (λ x o. walk x o (tree ts a)) (λ x o. walk x o (tree ts b)) v1 ≡ v1) → Writes {A = Unit {0}} ts goal (Ok tt) s1
+      walk_other node e = walk_here (walk_built node ∙ e)
 
       -- the two halves of a pair
       module _ (node : node_at ts t ≡ Built Pair a b) where
         pair_walk : goal ≡ walk (walk (view ts s1) (op_of (tree ts) (Left n)) (tree ts a)) (op_of (tree ts) (Right n)) (tree ts b)
-        pair_walk = walk_built Pair a b node ∙ ap₂ (λ i v. walk (walk v (LEFT i) (tree ts a)) (RIGHT i) (tree ts b)) slot_is (sym one)
+        pair_walk = walk_built node ∙ ap₂ (λ i v. walk (walk v (LEFT i) (tree ts a)) (RIGHT i) (tree ts b)) slot_is (sym h.one)
 
         pub left_stop : (x : ScriptError) (s2 : Script) → Writes {A = Unit {0}} ts (walk (view ts s1) (op_of (tree ts) (Left n)) (tree ts a)) (Err x) s2 → Writes {A = Unit {0}} ts goal (Err x) s2
         left_stop Full s2 w =
@@ -213,32 +237,32 @@ module _ (ts : List TermNode) (ok : Orderly ts) (s : Script) (op : Instruction) 
 
         pub right_walk : (s2 : Script) → view ts s2 ≡ walk (view ts s1) (op_of (tree ts) (Left n)) (tree ts a) → (r : Result (Unit {0}) ScriptError) (s3 : Script)
             → Writes ts (walk (view ts s2) (op_of (tree ts) (Right n)) (tree ts b)) r s3 → Writes ts goal r s3
-        right_walk s2 e r s3 w = subst (λ u. Writes ts u r s3) (ap (λ v. walk v (RIGHT n) (tree ts b)) e ∙ sym pair_walk) w
+        right_walk s2 e r s3 w = subst (λ y. Writes ts y r s3) (ap (λ v. walk v (RIGHT n) (tree ts b)) e ∙ sym pair_walk) w
 
       -- the content of a sealed term
       module _ (node : node_at ts t ≡ Built Sealed a b) where
         pub key_is : Key (tree ts b)
-        key_is = let f = subst Formed (tree_at ts ok.lower t (Built Sealed a b) lt node) (formed ts ok t lt) in f.2
+        key_is = let f = subst Formed (tree_at ts u.ok.lower t (Built Sealed a b) u.term node) (formed ts u.ok t u.term) in f.2
 
         sealed_walk : goal ≡ unlocked (view ts s1) (compose (view ts s1) (opener (tree ts b))) (λ v o. walk v (OPEN n o) (tree ts a))
-        sealed_walk = walk_built Sealed a b node ∙ ap₂ (λ i v. unlocked v (compose v (opener (tree ts b))) (λ w o. walk w (OPEN i o) (tree ts a))) slot_is (sym one)
+        sealed_walk = walk_built node ∙ ap₂ (λ i v. unlocked v (compose v (opener (tree ts b))) (λ w o. walk w (OPEN i o) (tree ts a))) slot_is (sym h.one)
 
         pub locked : (s2 : Script) → Unlocks ts s1 b (Ok None) s2 → Writes {A = Unit {0}} ts goal (Ok tt) s2
-        locked s2 u =
-            subst (λ w. Writes {A = Unit {0}} ts goal (Ok tt) w) (sym u.1)
-            (sym (sealed_walk ∙ ap (λ o. unlocked (view ts s1) o (λ v o. walk v (OPEN n o) (tree ts a))) u.0), known)
+        locked s2 w =
+            subst (λ z. Writes {A = Unit {0}} ts goal (Ok tt) z) (sym w.1)
+            (sym (sealed_walk ∙ ap (λ o. unlocked (view ts s1) o (λ v o. walk v (OPEN n o) (tree ts a))) w.0), h.names)
 
         pub unlock_stop : (x : ScriptError) (s2 : Script) → Unlocks ts s1 b (Err x) s2 → Writes {A = Unit {0}} ts goal (Err x) s2
-        unlock_stop Full s2 u =
-            let e = sealed_walk ∙ ap (λ o. unlocked (view ts s1) o (λ v o. walk v (OPEN n o) (tree ts a))) u.1 in
-            let c = u.0 in
-            omega (arith, u.2, ap length e, begins_length c.script (walk c.script (OPEN n c.slot) (tree ts a)) (walk_begins c.script (OPEN n c.slot) (tree ts a)))
-        unlock_stop (Missing m) s2 u = absurd u
+        unlock_stop Full s2 w =
+            let e = sealed_walk ∙ ap (λ o. unlocked (view ts s1) o (λ v o. walk v (OPEN n o) (tree ts a))) w.1 in
+            let c = w.0 in
+            omega (arith, w.2, ap length e, begins_length c.script (walk c.script (OPEN n c.slot) (tree ts a)) (walk_begins c.script (OPEN n c.slot) (tree ts a)))
+        unlock_stop (Missing m) s2 w = absurd w
 
         pub content_walk : (o : ℕ) (s2 : Script) → Unlocks ts s1 b (Ok (Some o)) s2 → (r : Result (Unit {0}) ScriptError) (s3 : Script)
             → Writes ts (walk (view ts s2) (op_of (tree ts) (Open n o)) (tree ts a)) r s3 → Writes ts goal r s3
-        content_walk o s2 u r s3 w =
-            subst (λ z. Writes ts z r s3) (sym (sealed_walk ∙ ap (λ p. unlocked (view ts s1) p (λ v i. walk v (OPEN n i) (tree ts a))) u.0)) w
+        content_walk o s2 x r s3 w =
+            subst (λ z. Writes ts z r s3) (sym (sealed_walk ∙ ap (λ p. unlocked (view ts s1) p (λ v i. walk v (OPEN n i) (tree ts a))) x.0)) w
 
 -- the walk of a term that can be composed
 pub walk_known : (v : RuleScript) (op : Op) (t : Term) (c : Composed) → compose (v then line op None) t ≡ Some c → compared (length v) c ≡ walk v op t

@@ -1,5 +1,5 @@
 -- Writing line by line, and what is too long.
-use Rattle.std.proofs.Common.{◌≡◌, ℕ, ◌<◌, ◌≤◌, List, [], ◌∷◌, length, take, Some, None, Ok, Err, Option, Result, sym, refl, ap, ◌∙◌, subst, arith, length-append, length-take-le}
+use Rattle.std.proofs.Common.{◌≡◌, ℕ, ◌<◌, ◌≤◌, List, [], ◌∷◌, length, Some, None, Ok, Err, Option, Result, sym, refl, ap, ◌∙◌, subst, arith, length-append, length-take-le}
 use Rattle.terms.specs.declared.node.TermNode.{TermNode}
 use Rattle.terms.specs.Tree.{tree}
 use Rattle.rules.specs.Script.{OPEN, Script as RuleScript, line, ◌then◌}
@@ -13,13 +13,12 @@ use Rattle.scripts.specs.declared.instruction.Line.{Line}
 use Rattle.scripts.specs.declared.instruction.ScriptError.{ScriptError}
 use Rattle.scripts.specs.declared.instruction.ScriptError.TheVariants.{Full, Missing}
 use Rattle.scripts.specs.declared.script.Script.{Script}
-use Rattle.scripts.specs.Composing.{view, LineBelow, AllNamed, Begins, Puts}
+use Rattle.scripts.specs.Composing.{view, LineBelow, AllNamed, Puts}
 use Rattle.scripts.specs.Lines.{line_of, script_of}
 use Rattle.scripts.specs.View.{written, Pushed}
 use Rattle.scripts.specs.declared.instruction.Taking.{Taking}
-use Rattle.scripts.specs.Writing.{Writes, Wrote, Longer, taken, Takes}
+use Rattle.scripts.specs.Writing.{Writes, taken, Takes}
 use Rattle.scripts.proofs.View.{length_view, view_append, named_more}
-use Rattle.scripts.proofs.Lacking.{cut_back}
 
 -- a pushed line is written by the rules' line
 pub pushed_writes : (ts : List TermNode) (s s1 : Script) (l : Line) (r : Result ℕ ScriptError) → Pushed s l r s1 → AllNamed (length ts) (written s) → LineBelow (length ts) l
@@ -29,24 +28,6 @@ pushed_writes ts s s1 l (Ok n) p k b =
 pushed_writes ts s s1 l (Err Full) p k b =
     omega (arith, p.0, length_view (tree ts) (written s), length-append (view ts s) (line_of (tree ts) l ∷ []))
 pushed_writes ts s s1 l (Err (Missing m)) p k b = absurd p
-
-pub pushed_longer : (s s1 : Script) (l : Line) (r : Result ℕ ScriptError) → Pushed s l r s1 → Longer s r s1
-pushed_longer s s1 l (Ok n) p = omega (arith, ap length p.2, length-append (written s) (l ∷ []))
-pushed_longer s s1 l (Err e) p = tt
-
--- what begins with a script is at least as long
-pub begins_long : (ls ms : List Line) → Begins ls ms → length ls ≤ length ms
-begins_long ls ms b = omega (arith, ap length b.1, length-append ls b.0)
-
-pub longer_after : (s s1 s2 : Script) (r : Result ℕ ScriptError) → Begins (written s) (written s1) → Longer s1 r s2 → Longer s r s2
-longer_after s s1 s2 (Ok n) b l = let m = begins_long (written s) (written s1) b in omega (arith, m, l)
-longer_after s s1 s2 (Err e) b l = tt
-
--- a refusal after which the script is cut back to what it was
-pub cut_writes : (A : Type 0) (ts : List TermNode) (w : RuleScript) (s s1 s2 : Script) (e : ScriptError) → Writes {A = A} ts w (Err e) s1
-    → Begins (written s) (written s1) → written s2 ≡ take (length (written s)) (written s1) → Wrote {A = A} ts s w (Err e) s2
-cut_writes A ts w s s1 s2 Full p b c = (p, c ∙ cut_back (written s) (written s1) b)
-cut_writes A ts w s s1 s2 (Missing m) p b c = absurd p
 
 -- a half is taken by one line
 pub half_writes : (ts : List TermNode) (s s1 : Script) (t u : Taking) (l : Line) (r : Result ℕ ScriptError) → t ≡ u → Pushed s l r s1 → AllNamed (length ts) (written s)

@@ -66,7 +66,11 @@ impl Script {
     }
 
     // Takes back what was written after the first n instructions, if the writing was refused.
-    pub(super) fn cut_if_refused<T>(&mut self, n: usize, done: Result<T, ScriptError>) -> Result<T, ScriptError>
+    pub(super) fn cut_if_refused<T>(
+        &mut self,
+        n: usize,
+        done: Result<T, ScriptError>,
+    ) -> Result<T, ScriptError>
         ensures same { result ≡ done }
         ensures cut { written self.new ≡ (if is_ok done then written self.old else take n (written self.old)) }
     {

@@ -2,19 +2,14 @@ use Rattle.std.proofs.Common.{sym}
 use Rattle.std.proofs.lemmas.Result.{err_from_is_err_and}
 use Rattle.terms.specs.Listed.{listed}
 use Rattle.terms.proofs.Listed.{orderly}
-use Rattle.scripts.specs.View.{written}
 use Rattle.scripts.proofs.View.{named_known}
-use Rattle.scripts.proofs.Composing.{begins_here}
 use Rattle.scripts.proofs.Walking.{lacks_none, no_opener, opener_missing, opener_put, opener_stopped}
 use Rattle.scripts.proofs.script.Script.unlock.Goals as goal
 
-pub returns-in_default : goal.returns-in_default
-returns-in_default c =
+pub returns-in_default-clause-unlocks : goal.returns-in_default-clause-unlocks
+returns-in_default-clause-unlocks c = λ l k a.
     let ts = c.args.terms.now in
-    record {
-      grows = begins_here (written c.args.self.now);
-      unlocks = λ l k a. no_opener (listed ts) (orderly ts) c.args.self.now c.args.key l k a c.in_default.ensures;
-    }
+    no_opener (listed ts) (orderly ts) c.args.self.now c.args.key l k a c.in_default.ensures
 
 pub returns-then-is_some-clause-unlocks : goal.returns-then-is_some-clause-unlocks
 returns-then-is_some-clause-unlocks c = λ l k a.
