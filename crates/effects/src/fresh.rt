@@ -1,10 +1,10 @@
 // Writing the fresh names of a message.
 ghost use Rattle.std.specs.Prelude.{◌≡◌, ◌<◌, length, Some};
 ghost use Rattle.rules.specs.Effects.{freshen, freshens};
-ghost use Rattle.scripts.specs.Composing.{AllNamed, view};
+ghost use Rattle.scripts.specs.Composing.{IsTerm, NamesTerms, view};
 ghost use Rattle.scripts.specs.View.{Pushed, written};
 ghost use Rattle.scripts.specs.Writing.{Writes};
-ghost use Rattle.scripts.specs.declared.instruction.Instruction.TheVariants.{Fresh, Mate};
+ghost use Rattle.scripts.specs.declared.instruction.Instruction.TheVariants.{Fresh};
 ghost use Rattle.terms.specs.Listed.{listed};
 ghost use Rattle.terms.specs.Tree.{tree};
 ghost use Rattle.effects.specs.Sending.{MateKnown, MatesKnown, PublicMate, is_public, marked_trees};
@@ -16,10 +16,7 @@ use terms::{Kind, TermId, TermNode, Terms};
 fn is_public(node: TermNode) -> bool
     ensures { result ≡ is_public node }
 {
-    match node {
-        TermNode::Name(Kind::Public, _) => true,
-        TermNode::Name(_, _) | TermNode::Built(_, _, _) | TermNode::Mate(_) => false,
-    }
+    matches!(node, TermNode::Name(Kind::Public, _))
 }
 
 // The mate of a public key, if it is a term.
@@ -41,20 +38,13 @@ fn push_fresh(script: &mut Script, name: TermId) -> Result<Slot, ScriptError>
     script.push(Instruction::Fresh(name), Some(name))
 }
 
-// Writes MATE for the key at a slot.
-fn push_mate(script: &mut Script, key: Slot, mate: TermId) -> Result<Slot, ScriptError>
-    ensures { Pushed script.old (record { op = Mate key; holds = Some mate }) result script.new }
-{
-    script.push(Instruction::Mate(key), Some(mate))
-}
-
 // One fresh name; a public key is followed by its mate.
 fn freshen(script: &mut Script, terms: &Terms<512>, name: TermId) -> Result<(), ScriptError>
-    ensures { name < length (listed terms.now) → MateKnown (listed terms.now) name → AllNamed (length (listed terms.now)) (written script.old) → Writes (listed terms.now) (freshen (view (listed terms.now) script.old) (tree (listed terms.now) name)) result script.new }
+    ensures { let ts = listed terms.now in IsTerm ts name → MateKnown ts name → NamesTerms ts script.old → Writes ts (freshen (view ts script.old) (tree ts name)) result script.new }
 {
     let slot = push_fresh(script, name)?;
     if let Some(mate) = public_mate(terms, name) {
-        push_mate(script, slot, mate)?;
+        script.push(Instruction::Mate(slot), Some(mate))?;
     }
     Ok(())
 }
@@ -65,7 +55,7 @@ pub(crate) fn freshen_all(
     terms: &Terms<512>,
     fresh: &[bool; 512],
 ) -> Result<(), ScriptError>
-    ensures { AllNamed (length (listed terms.now)) (written script.old) → MatesKnown (listed terms.now) fresh.now → Writes (listed terms.now) (freshens (view (listed terms.now) script.old) (marked_trees (listed terms.now) fresh.now)) result script.new }
+    ensures { let ts = listed terms.now in NamesTerms ts script.old → MatesKnown ts fresh.now → Writes ts (freshens (view ts script.old) (marked_trees ts fresh.now)) result script.new }
 {
     for name in 0..terms.len() {
         if fresh[name] {

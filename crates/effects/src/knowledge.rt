@@ -2,7 +2,7 @@
 ghost use Rattle.std.specs.Prelude.{◌<◌, length, Some};
 ghost use Rattle.rules.specs.Effects.{knows};
 ghost use Rattle.rules.specs.Saturate.{saturate};
-ghost use Rattle.scripts.specs.Composing.{AllNamed, view};
+ghost use Rattle.scripts.specs.Composing.{IsTerm, NamesTerms, view};
 ghost use Rattle.scripts.specs.View.{Pushed, written};
 ghost use Rattle.scripts.specs.declared.instruction.Instruction.TheVariants.{Given};
 ghost use Rattle.terms.specs.Listed.{listed};
@@ -13,12 +13,11 @@ use scripts::{Instruction, Script, ScriptError, Slot};
 use terms::{TermId, Terms};
 
 // The script, saturated.
-pub(crate) fn saturated(script: Script, terms: &Terms<512>) -> Result<Script, ScriptError>
-    ensures { AllNamed (length (listed terms.now)) (written script) → Effects (listed terms.now) (saturate (view (listed terms.now) script)) result }
+pub(crate) fn saturated(mut script: Script, terms: &Terms<512>) -> Result<Script, ScriptError>
+    ensures { let ts = listed terms.now in NamesTerms ts script → Effects ts (saturate (view ts script)) result }
 {
-    let mut after = script;
-    after.saturate(terms)?;
-    Ok(after)
+    script.saturate(terms)?;
+    Ok(script)
 }
 
 // Writes GIVEN.
@@ -30,7 +29,7 @@ fn give(script: &mut Script, term: TermId) -> Result<Slot, ScriptError>
 
 // Initial knowledge: what can be composed writes nothing.
 pub fn know(script: &Script, terms: &Terms<512>, term: TermId) -> Result<Script, ScriptError>
-    ensures { term < length (listed terms.now) → AllNamed (length (listed terms.now)) (written script.now) → Effects (listed terms.now) (knows (view (listed terms.now) script.now) (tree (listed terms.now) term)) result }
+    ensures { let ts = listed terms.now in IsTerm ts term → NamesTerms ts script.now → Effects ts (knows (view ts script.now) (tree ts term)) result }
 {
     if script.missing(terms, term).is_none() {
         return Ok(*script);

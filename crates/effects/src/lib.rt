@@ -19,31 +19,15 @@ pub use sender::send;
 #[cfg(test)]
 mod tests {
     use super::*;
-    use scripts::{Instruction, Script, ScriptError};
+    use scripts::{Instruction, Script};
     use std::test::Fail;
     use terms::{Form, Kind, Terms};
 
-    // The answered script, blank where it is refused.
-    fn written(answer: Result<Script, ScriptError>) -> Script {
-        match answer {
-            Ok(script) => script,
-            Err(_) => Script::blank(),
-        }
-    }
-
     // Whether a script has exactly these instructions.
     fn is_script(script: &Script, expected: &[Instruction]) -> bool {
-        for (slot, op) in expected.iter().enumerate() {
-            match script.line(slot) {
-                Some(line) => {
-                    if line.op != *op {
-                        return false;
-                    }
-                }
-                None => return false,
-            }
-        }
-        script.len() == expected.len()
+        let lines = script.lines();
+        lines.len() == expected.len()
+            && lines.iter().zip(expected).all(|(line, op)| line.op == *op)
     }
 
     // Parties U (0) and S (1), a number J (2); U starts with S's name and sends S the pair (3) of U and J.
@@ -56,8 +40,8 @@ mod tests {
         let pair = terms.build(Form::Pair, u, j)?;
         let mut fresh = [false; 512];
         fresh[j] = true;
-        let start = written(know(&written(know(&Script::blank(), &terms, u)), &terms, s));
-        let sender = written(send(&start, &terms, &fresh, pair, 1));
+        let start = know(&know(&Script::blank(), &terms, u)?, &terms, s)?;
+        let sender = send(&start, &terms, &fresh, pair, 1)?;
         assert!(rt;
             is_script(
                 &sender,
@@ -70,12 +54,7 @@ mod tests {
                 ]
             )
         );
-        let receiver = written(receive(
-            &written(know(&Script::blank(), &terms, s)),
-            &terms,
-            u,
-            pair,
-        ));
+        let receiver = receive(&know(&Script::blank(), &terms, s)?, &terms, u, pair)?;
         assert!(rt;
             is_script(
                 &receiver,
@@ -89,7 +68,7 @@ mod tests {
                 ]
             )
         );
-        let listener = written(overhear(&Script::blank(), &terms, u, s, pair));
+        let listener = overhear(&Script::blank(), &terms, u, s, pair)?;
         assert!(rt;
             is_script(
                 &listener,

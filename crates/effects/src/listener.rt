@@ -1,8 +1,8 @@
 // What a step writes into the listener's script.
 ghost use Rattle.std.specs.Prelude.{◌<◌, length};
 ghost use Rattle.rules.specs.Effects.{overhears, overheard};
-ghost use Rattle.rules.specs.Script.{FROM, TO, RECV};
-ghost use Rattle.scripts.specs.Composing.{AllNamed, OpBelow, view};
+ghost use Rattle.rules.specs.Script.{FROM, TO};
+ghost use Rattle.scripts.specs.Composing.{IsTerm, NamesTerms, OpNames, view};
 ghost use Rattle.scripts.specs.Lines.{op_of};
 ghost use Rattle.scripts.specs.View.{written};
 ghost use Rattle.scripts.specs.Writing.{Writes};
@@ -21,7 +21,7 @@ fn hold(
     op: Instruction,
     term: TermId,
 ) -> Result<(), ScriptError>
-    ensures { term < length (listed terms.now) → AllNamed (length (listed terms.now)) (written script.old) → OpBelow (length (listed terms.now)) op → Writes (listed terms.now) (overhears (view (listed terms.now) script.old) (op_of (tree (listed terms.now)) op) (tree (listed terms.now) term)) result script.new }
+    ensures { let ts = listed terms.now in IsTerm ts term → NamesTerms ts script.old → OpNames ts op → Writes ts (overhears (view ts script.old) (op_of (tree ts) op) (tree ts term)) result script.new }
 {
     if script.missing(terms, term).is_none() {
         return Ok(());
@@ -32,23 +32,16 @@ fn hold(
 
 // Who sent it.
 fn hold_sender(script: &mut Script, terms: &Terms<512>, from: TermId) -> Result<(), ScriptError>
-    ensures { from < length (listed terms.now) → AllNamed (length (listed terms.now)) (written script.old) → Writes (listed terms.now) (overhears (view (listed terms.now) script.old) (FROM (tree (listed terms.now) from)) (tree (listed terms.now) from)) result script.new }
+    ensures { let ts = listed terms.now in IsTerm ts from → NamesTerms ts script.old → Writes ts (overhears (view ts script.old) (FROM (tree ts from)) (tree ts from)) result script.new }
 {
     hold(script, terms, Instruction::From(from), from)
 }
 
 // To whom it was sent.
 fn hold_receiver(script: &mut Script, terms: &Terms<512>, to: TermId) -> Result<(), ScriptError>
-    ensures { to < length (listed terms.now) → AllNamed (length (listed terms.now)) (written script.old) → Writes (listed terms.now) (overhears (view (listed terms.now) script.old) (TO (tree (listed terms.now) to)) (tree (listed terms.now) to)) result script.new }
+    ensures { let ts = listed terms.now in IsTerm ts to → NamesTerms ts script.old → Writes ts (overhears (view ts script.old) (TO (tree ts to)) (tree ts to)) result script.new }
 {
     hold(script, terms, Instruction::To(to), to)
-}
-
-// The message.
-fn hold_message(script: &mut Script, terms: &Terms<512>, message: TermId) -> Result<(), ScriptError>
-    ensures { message < length (listed terms.now) → AllNamed (length (listed terms.now)) (written script.old) → Writes (listed terms.now) (overhears (view (listed terms.now) script.old) (RECV (tree (listed terms.now) message)) (tree (listed terms.now) message)) result script.new }
-{
-    hold(script, terms, Instruction::Recv(message), message)
 }
 
 // The listener's script after a step.
@@ -59,11 +52,11 @@ pub fn overhear(
     to: TermId,
     message: TermId,
 ) -> Result<Script, ScriptError>
-    ensures { from < length (listed terms.now) → to < length (listed terms.now) → message < length (listed terms.now) → AllNamed (length (listed terms.now)) (written script.now) → Effects (listed terms.now) (overheard (view (listed terms.now) script.now) (tree (listed terms.now) from) (tree (listed terms.now) to) (tree (listed terms.now) message)) result }
+    ensures { let ts = listed terms.now in IsTerm ts from → IsTerm ts to → IsTerm ts message → NamesTerms ts script.now → Effects ts (overheard (view ts script.now) (tree ts from) (tree ts to) (tree ts message)) result }
 {
     let mut after = *script;
     hold_sender(&mut after, terms, from)?;
     hold_receiver(&mut after, terms, to)?;
-    hold_message(&mut after, terms, message)?;
+    hold(&mut after, terms, Instruction::Recv(message), message)?;
     saturated(after, terms)
 }

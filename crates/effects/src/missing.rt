@@ -1,6 +1,6 @@
 // What a message lacks once its fresh names are written, judged before anything is.
 ghost use Rattle.std.specs.Prelude.{◌≡◌, ◌<◌, false, ◌||◌, length, slice_index_or};
-ghost use Rattle.scripts.specs.Composing.{AllNamed, view};
+ghost use Rattle.scripts.specs.Composing.{IsTerm, NamesTerms, view};
 ghost use Rattle.scripts.specs.View.{written};
 ghost use Rattle.terms.specs.Node.{node_at};
 ghost use Rattle.terms.specs.Listed.{listed};
@@ -10,19 +10,12 @@ ghost use Rattle.effects.specs.Sending.{FreshMarked, LacksFresh, MatesKnown, Nam
 use scripts::Script;
 use terms::{TermId, TermNode, Terms};
 
-// Whether a number is marked; past the end none is.
-fn is_marked(marks: &[bool; 512], term: TermId) -> bool
-    ensures { result ≡ slice_index_or marks.now term false }
-{
-    term < 512 && marks[term]
-}
-
 // Whether a record is the mate of a marked number.
 fn is_mate_of(marks: &[bool; 512], node: TermNode) -> bool
     ensures { result ≡ is_mate_of marks.now node }
 {
     match node {
-        TermNode::Mate(key) => is_marked(marks, key),
+        TermNode::Mate(key) => marks.get(key).copied().unwrap_or(false),
         TermNode::Name(_, _) | TermNode::Built(_, _, _) => false,
     }
 }
@@ -32,10 +25,9 @@ fn comes_fresh(terms: &Terms<512>, fresh: &[bool; 512], term: TermId) -> bool
     requires { term < length (listed terms.now) }
     ensures { result ≡ (slice_index_or fresh.now term false || is_mate_of fresh.now (node_at (listed terms.now) term)) }
 {
-    match terms.get(term) {
-        Some(node) => fresh[term] || is_mate_of(fresh, node),
-        None => false,
-    }
+    terms
+        .get(term)
+        .is_some_and(|node| fresh[term] || is_mate_of(fresh, node))
 }
 
 // Marks what comes with the fresh names too.
@@ -43,9 +35,7 @@ fn mark_fresh(terms: &Terms<512>, fresh: &[bool; 512], marks: &mut [bool; 512])
     ensures { FreshMarked (listed terms.now) fresh.now marks.old marks.new }
 {
     for term in 0..terms.len() {
-        if comes_fresh(terms, fresh, term) {
-            marks[term] = true;
-        }
+        marks[term] |= comes_fresh(terms, fresh, term);
     }
 }
 
@@ -56,7 +46,7 @@ pub(crate) fn lacking(
     fresh: &[bool; 512],
     message: TermId,
 ) -> Option<TermId>
-    ensures { message < length (listed terms.now) → AllNamed (length (listed terms.now)) (written script.now) → NamesMarked (listed terms.now) fresh.now → MatesKnown (listed terms.now) fresh.now → LacksFresh (listed terms.now) (view (listed terms.now) script.now) (marked_trees (listed terms.now) fresh.now) (tree (listed terms.now) message) result }
+    ensures { let ts = listed terms.now in IsTerm ts message → NamesTerms ts script.now → NamesMarked ts fresh.now → MatesKnown ts fresh.now → LacksFresh ts (view ts script.now) (marked_trees ts fresh.now) (tree ts message) result }
 {
     let mut marks = script.held();
     mark_fresh(terms, fresh, &mut marks);

@@ -4,7 +4,7 @@ ghost use Rattle.deduction.specs.Term.{Named, party};
 ghost use Rattle.rules.specs.Effects.{received};
 ghost use Rattle.rules.specs.Script.{FROM, RECV};
 ghost use Rattle.rules.specs.Walk.{walk};
-ghost use Rattle.scripts.specs.Composing.{AllNamed, view};
+ghost use Rattle.scripts.specs.Composing.{IsTerm, NamesTerms, view};
 ghost use Rattle.scripts.specs.View.{written};
 ghost use Rattle.scripts.specs.Writing.{Wrote};
 ghost use Rattle.terms.specs.Listed.{listed};
@@ -17,14 +17,14 @@ use terms::{TermId, Terms};
 
 // Walks the sender's name.
 fn walk_sender(script: &mut Script, terms: &Terms<512>, sender: TermId) -> Result<(), ScriptError>
-    ensures { sender < length (listed terms.now) → AllNamed (length (listed terms.now)) (written script.old) → Wrote (listed terms.now) script.old (walk (view (listed terms.now) script.old) (FROM (tree (listed terms.now) sender)) (tree (listed terms.now) sender)) result script.new }
+    ensures { let ts = listed terms.now in IsTerm ts sender → NamesTerms ts script.old → Wrote ts script.old (walk (view ts script.old) (FROM (tree ts sender)) (tree ts sender)) result script.new }
 {
     script.walk(terms, Instruction::From(sender), sender)
 }
 
 // Walks the message.
 fn walk_message(script: &mut Script, terms: &Terms<512>, message: TermId) -> Result<(), ScriptError>
-    ensures { message < length (listed terms.now) → AllNamed (length (listed terms.now)) (written script.old) → Wrote (listed terms.now) script.old (walk (view (listed terms.now) script.old) (RECV (tree (listed terms.now) message)) (tree (listed terms.now) message)) result script.new }
+    ensures { let ts = listed terms.now in IsTerm ts message → NamesTerms ts script.old → Wrote ts script.old (walk (view ts script.old) (RECV (tree ts message)) (tree ts message)) result script.new }
 {
     script.walk(terms, Instruction::Recv(message), message)
 }
@@ -36,7 +36,7 @@ pub fn receive(
     sender: TermId,
     message: TermId,
 ) -> Result<Script, ScriptError>
-    ensures { sender < length (listed terms.now) → message < length (listed terms.now) → Named party (tree (listed terms.now) sender) → AllNamed (length (listed terms.now)) (written script.now) → Effects (listed terms.now) (received (view (listed terms.now) script.now) (tree (listed terms.now) sender) (tree (listed terms.now) message)) result }
+    ensures { let ts = listed terms.now in IsTerm ts sender → IsTerm ts message → Named party (tree ts sender) → NamesTerms ts script.now → Effects ts (received (view ts script.now) (tree ts sender) (tree ts message)) result }
 {
     let mut after = *script;
     walk_sender(&mut after, terms, sender)?;

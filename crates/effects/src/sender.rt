@@ -1,6 +1,6 @@
 // What a step writes into the sender's script.
 ghost use Rattle.std.specs.Prelude.{◌<◌, length, None};
-ghost use Rattle.scripts.specs.Composing.{AllNamed, view};
+ghost use Rattle.scripts.specs.Composing.{IsTerm, NamesTerms, view};
 ghost use Rattle.scripts.specs.View.{Pushed, written};
 ghost use Rattle.scripts.specs.declared.instruction.Instruction.TheVariants.{Send};
 ghost use Rattle.terms.specs.Listed.{listed};
@@ -28,7 +28,7 @@ pub fn send(
     message: TermId,
     address: Slot,
 ) -> Result<Script, ScriptError>
-    ensures { message < length (listed terms.now) → AllNamed (length (listed terms.now)) (written script.now) → NamesMarked (listed terms.now) fresh.now → MatesKnown (listed terms.now) fresh.now → Sends (listed terms.now) (view (listed terms.now) script.now) (marked_trees (listed terms.now) fresh.now) (tree (listed terms.now) message) address result }
+    ensures { let ts = listed terms.now in IsTerm ts message → NamesTerms ts script.now → NamesMarked ts fresh.now → MatesKnown ts fresh.now → Sends ts (view ts script.now) (marked_trees ts fresh.now) (tree ts message) address result }
 {
     if let Some(missing) = lacking(script, terms, fresh, message) {
         return Err(ScriptError::Missing(missing));

@@ -1,9 +1,10 @@
 -- What marks of given terms say of used names.
-use Rattle.std.proofs.Common.{◌≡◌, ℕ, zero, suc, ◌+◌, ◌<◌, ◌≤◌, Bool, true, false, ◌||◌, eqb, ◌⊎◌, List, [], ◌∷◌, length, get_or, take, Decides, sym, refl, ap, ◌∙◌, subst, inl, inr, ⊎_elim, add-one, arith, take_all}
+use Rattle.std.proofs.Common.{◌≡◌, ℕ, zero, suc, ◌+◌, ◌<◌, ◌≤◌, Bool, true, false, ◌||◌, eqb, ◌⊎◌, List, [], ◌∷◌, ◌++◌, length, get_or, take, Decides, sym, refl, ap, ◌∙◌, subst, inl, inr, ⊎_elim, arith}
+use Rattle.std.proofs.lemmas.List.{take_more}
 use Rattle.std.proofs.lemmas.Bool.{cases_Bool, eqb-true, eq-eqb, or_cases, or_left, or_right, false≢true}
 use Rattle.std.proofs.lemmas.Bool.Decides.{same_from_decides, Decides-like, Decides-or}
 use Rattle.deduction.specs.Term.{Kind, Term, Occurs}
-use Rattle.rules.specs.State.{nth, occurs, occurs_given, used_in}
+use Rattle.rules.specs.State.{occurs, occurs_given, used_in}
 use Rattle.rules.proofs.Used.{occurs_decides, or_false, or_assoc}
 use Rattle.terms.specs.declared.node.TermNode.{TermNode}
 use Rattle.terms.specs.Tree.{tree}
@@ -11,9 +12,10 @@ use Rattle.terms.specs.Held.{held_terms}
 use Rattle.scripts.specs.declared.instruction.Instruction.{Instruction}
 use Rattle.scripts.specs.declared.instruction.Instruction.TheVariants.{Given, Fresh, From, To, Recv, Mate, Left, Right, Join, Seal, Digest, Entry, Open, Same, Send}
 use Rattle.scripts.specs.declared.instruction.Line.{Line}
+use Rattle.scripts.specs.Holding.{no_line}
 use Rattle.scripts.specs.Composing.{OpBelow, AllNamed}
 use Rattle.scripts.specs.Lines.{op_of, script_of}
-use Rattle.freshness.specs.Given.{gives, gives_at, given_in}
+use Rattle.freshness.specs.Given.{gives, given_in}
 use Rattle.freshness.specs.Marks.{Marked}
 use Rattle.freshness.specs.Fresh.{occurs_in}
 use Rattle.freshness.proofs.Naming.{OccursMarked, marked_decides}
@@ -28,21 +30,12 @@ marked_then f g h a b c both first second = record {
 }
 
 -- one line more
-pub given_more : (t : ℕ) (ls : List Line) (i : ℕ) → given_in t (take (i + 1) ls) ≡ (given_in t (take i ls) || gives_at t (nth ls i))
-given_more t ls i = rw add-one (go ls i)
+pub given_more : (t : ℕ) (ls : List Line) (i : ℕ) → i < length ls → given_in t (take (i + 1) ls) ≡ (given_in t (take i ls) || gives t (get_or ls i no_line).op)
+given_more t ls i l = ap (given_in t) (take_more ls i no_line l) ∙ last (take i ls) (get_or ls i no_line)
   where
-    go : (ls : List Line) (i : ℕ) → given_in t (take (suc i) ls) ≡ (given_in t (take i ls) || gives_at t (nth ls i))
-    go [] zero = refl
-    go [] (suc i) = refl
-    go (x ∷ ls) zero = or_false (gives t x.op)
-    go (x ∷ ls) (suc i) = ap (λ y. gives t x.op || y) (go ls i) ∙ sym (or_assoc (gives t x.op) (given_in t (take i ls)) (gives_at t (nth ls i)))
-
--- as many lines as there are, or more
-pub all_given : (ls : List Line) (n : ℕ) → length ls ≤ n → (a b : List Bool) → Marked (λ t. given_in t (take n ls)) a b → Marked (λ t. given_in t ls) a b
-all_given ls n l a b m = record {
-  marks = λ t h. m.marks t h ∙ ap (λ v. get_or a t false || given_in t v) (take_all n ls l);
-  size = m.size;
-}
+    last : (ls : List Line) (l : Line) → given_in t (ls ++ (l ∷ [])) ≡ (given_in t ls || gives t l.op)
+    last [] l = or_false (gives t l.op)
+    last (x ∷ ls) l = ap (λ y. gives t x.op || y) (last ls l) ∙ sym (or_assoc (gives t x.op) (given_in t ls) (gives t l.op))
 
 -- a given term is one of the first n
 gives_below : (n t : ℕ) (op : Instruction) → OpBelow n op → gives t op ≡ true → t < n

@@ -1,5 +1,5 @@
 -- Which numbers the instructions of a script give.
-use Rattle.std.specs.Prelude.{ℕ, Bool, false, ◌||◌, List, [], ◌∷◌, Some, None, Option, ◌==◌}
+use Rattle.std.specs.Prelude.{ℕ, Bool, false, ◌||◌, List, [], ◌∷◌, ◌==◌}
 use Rattle.scripts.specs.declared.instruction.Instruction.{Instruction}
 use Rattle.scripts.specs.declared.instruction.Instruction.TheVariants.{Given, Fresh, From, To, Recv, Mate, Left, Right, Join, Seal, Digest, Entry, Open, Same, Send}
 use Rattle.scripts.specs.declared.instruction.Line.{Line}
@@ -21,11 +21,6 @@ gives t (Entry i j) = false
 gives t (Open i j) = false
 gives t (Same i j) = false
 gives t (Send i j) = false
-
--- the line, if there is one, is the GIVEN of the number
-abbrev pub gives_at : ℕ → Option Line → Bool
-gives_at t None = false
-gives_at t (Some l) = gives t l.op
 
 -- some instruction is a GIVEN of the number
 abbrev pub given_in : ℕ → List Line → Bool

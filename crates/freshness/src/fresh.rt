@@ -5,7 +5,7 @@ ghost use Rattle.terms.specs.Listed.{listed};
 ghost use Rattle.freshness.specs.Fresh.{can_be_fresh, FreshAmong, FreshNames};
 ghost use Rattle.freshness.specs.Marks.{Only};
 
-use crate::marks::{mark, unmarked};
+use crate::marks::mark;
 use crate::within::occurring;
 use terms::{Kind, TermId, TermNode, Terms};
 
@@ -13,10 +13,10 @@ use terms::{Kind, TermId, TermNode, Terms};
 fn can_be_fresh(node: TermNode) -> bool
     ensures { result ≡ can_be_fresh node }
 {
-    match node {
-        TermNode::Name(Kind::Number | Kind::Shared | Kind::Public, _) => true,
-        TermNode::Name(_, _) | TermNode::Built(_, _, _) | TermNode::Mate(_) => false,
-    }
+    matches!(
+        node,
+        TermNode::Name(Kind::Number | Kind::Shared | Kind::Public, _)
+    )
 }
 
 // A name is fresh if it stands within the message and within nothing shown.
@@ -30,7 +30,7 @@ fn is_fresh(node: TermNode, sent: bool, used: bool) -> bool
 fn only(term: TermId) -> [bool; 512]
     ensures { Only term result }
 {
-    let mut marks = unmarked();
+    let mut marks = [false; 512];
     mark(&mut marks, term);
     marks
 }
@@ -40,17 +40,16 @@ fn is_fresh_at(terms: &Terms<512>, term: TermId, sent: &[bool; 512], used: &[boo
     requires { term < length (listed terms.now) }
     ensures { result ≡ (can_be_fresh (node_at (listed terms.now) term) && (slice_index_or sent.now term false && not (slice_index_or used.now term false))) }
 {
-    match terms.get(term) {
-        Some(node) => is_fresh(node, sent[term], used[term]),
-        None => false,
-    }
+    terms
+        .get(term)
+        .is_some_and(|node| is_fresh(node, sent[term], used[term]))
 }
 
 // The fresh names, from what stands within the message and what is used.
 fn fresh_among(terms: &Terms<512>, sent: &[bool; 512], used: &[bool; 512]) -> [bool; 512]
     ensures { FreshAmong (listed terms.now) sent.now used.now result }
 {
-    let mut fresh = unmarked();
+    let mut fresh = [false; 512];
     for term in 0..terms.len() {
         fresh[term] = is_fresh_at(terms, term, sent, used);
     }

@@ -1,16 +1,8 @@
 // Marks of terms by their numbers.
-ghost use Rattle.std.specs.Prelude.{◌≡◌, ℕ, false, length, nat_eq, slice_index_or};
+ghost use Rattle.std.specs.Prelude.{nat_eq};
 ghost use Rattle.freshness.specs.Marks.{Marked};
 
 use terms::TermId;
-
-// Nothing is marked yet.
-pub(crate) fn unmarked() -> [bool; 512]
-    ensures size { length result ≡ 512 }
-    ensures none { (t : ℕ) → slice_index_or result t false ≡ false }
-{
-    [false; 512]
-}
 
 // Marks one term.
 pub fn mark(marks: &mut [bool; 512], term: TermId)

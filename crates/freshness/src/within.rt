@@ -5,7 +5,7 @@ ghost use Rattle.terms.specs.Listed.{listed};
 ghost use Rattle.freshness.specs.Marks.{Marked};
 ghost use Rattle.freshness.specs.Occurring.{is_part, Occurring};
 
-use crate::marks::{mark, unmarked};
+use crate::marks::mark;
 use terms::{TermId, TermNode, Terms};
 
 // Marks the parts of a record.
@@ -37,7 +37,7 @@ fn mark_whole(terms: &Terms<512>, term: TermId, marks: &mut [bool; 512])
 pub fn occurring(terms: &Terms<512>, marks: &[bool; 512]) -> [bool; 512]
     ensures { Occurring (listed terms.now) marks.now result }
 {
-    let mut occurring = unmarked();
+    let mut occurring = [false; 512];
     for term in (0..terms.len()).rev() {
         if marks[term] || occurring[term] {
             mark_whole(terms, term, &mut occurring);

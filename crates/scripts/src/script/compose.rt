@@ -35,7 +35,7 @@ impl Script {
         ensures { HeldMarks (written self.now) result }
     {
         let mut marks = [false; 512];
-        for line in self.lines.as_slice() {
+        for line in self.lines() {
             mark(&mut marks, line.holds);
         }
         marks

@@ -36,14 +36,18 @@ impl Script {
         self.lines.get(slot)
     }
 
+    // The instructions in order, each with the term that its slot holds.
+    pub fn lines(&self) -> &[Line]
+        ensures { result.now ≡ written self.now }
+    {
+        self.lines.as_slice()
+    }
+
     // The lowest slot that holds a term.
     pub fn slot_of(&self, term: TermId) -> Option<Slot>
         ensures { result ≡ slot_of 0 (written self.now) term }
     {
-        self.lines
-            .as_slice()
-            .iter()
-            .position(|line| line.is_holding(term))
+        self.lines().iter().position(|line| line.is_holding(term))
     }
 
     // Writes one instruction more, and answers its slot.

@@ -87,7 +87,7 @@ impl Script {
         ensures { let ts = listed terms.now in NamesTerms ts self.now → Takes ts (view ts self.now) (take_apart (view ts self.now)) result }
     {
         let judged = self.judged(terms);
-        for (slot, line) in self.lines.as_slice().iter().enumerate() {
+        for (slot, line) in self.lines().iter().enumerate() {
             if let Some(taking) = take_held(terms, &judged, slot, line.holds) {
                 return Some(taking);
             }

@@ -11,6 +11,6 @@ pub loop-line-preserved : goal.loop-line-preserved
 loop-line-preserved c =
     let i = c.loop-line.invariant in
     record {
-      marks = λ t l. c.mark.ensures.marks t l ∙ marked_more c.as_slice-line-items.result.now c.loop-line.line-index t _ c.loop-line-test.true (i.marks t l);
+      marks = λ t l. c.mark.ensures.marks t l ∙ marked_more c.lines-line-items.result.now c.loop-line.line-index t _ c.loop-line-test.true (i.marks t l);
       size = c.mark.ensures.size ∙ i.size;
     }

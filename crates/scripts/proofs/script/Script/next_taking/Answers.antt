@@ -14,7 +14,7 @@ returns-in-Some c = λ k.
     let ts = listed c.args.terms.now in
     let s = c.args.self.now in
     let i = c.loop-slot.slot in
-    let lines = c.as_slice-line-items.ensures in
+    let lines = c.lines-line-items.ensures in
     let l : i < length (written s) = rw (← lines) c.loop-slot-test.true in
     taken_next ts s k i l (c.loop-slot.invariant k) c.in-Some.taking
     ((rw lines at c.in-Some.ensures) (view ts s) (line_below ts s k i l) (held_in ts s k) (c.judged-judged.ensures k))
@@ -24,11 +24,11 @@ loop-slot-preserved c = λ k.
     let ts = listed c.args.terms.now in
     let s = c.args.self.now in
     let i = c.loop-slot.slot in
-    let lines = c.as_slice-line-items.ensures in
+    let lines = c.lines-line-items.ensures in
     let l : i < length (written s) = rw (← lines) c.loop-slot-test.true in
     nothing_next ts s k i l (c.loop-slot.invariant k)
     ((rw lines at c.in_default.ensures) (view ts s) (line_below ts s k i l) (held_in ts s k) (c.judged-judged.ensures k))
 
 pub returns : goal.returns
 returns c = λ k.
-    nothing_left (listed c.args.terms.now) c.args.self.now c.loop-slot.slot (rw (← c.as_slice-line-items.ensures) c.loop-slot-test.false) (c.loop-slot.invariant k)
+    nothing_left (listed c.args.terms.now) c.args.self.now c.loop-slot.slot (rw (← c.lines-line-items.ensures) c.loop-slot-test.false) (c.loop-slot.invariant k)
