@@ -13,8 +13,7 @@ use Rattle.rules.specs.Effects.{freshens, sent}
 use Rattle.scripts.specs.declared.instruction.ScriptError.{ScriptError}
 use Rattle.scripts.specs.declared.instruction.ScriptError.TheVariants.{Full, Missing}
 use Rattle.scripts.specs.declared.script.Script.{Script}
-use Rattle.scripts.specs.Composing.{view, AllNamed}
-use Rattle.scripts.specs.View.{written}
+use Rattle.scripts.specs.Composing.{view, NamesTerms}
 
 -- the trees of the marked numbers among the k numbers from n on, in number order
 abbrev pub marked_from : List TermNode → List Bool → ℕ → ℕ → List Term
@@ -40,7 +39,7 @@ MatesKnown ts marks = (i : ℕ) → i < length ts → slice_index_or marks i fal
 -- the script after a step by its sender; refused for the missing term exactly where the rules write nothing, whether there is room or
 -- not, and as full exactly where what they write is longer than 512
 abbrev pub Sends : List TermNode → RuleScript → List Term → Term → ℕ → Result Script ScriptError → Type 0
-Sends ts v fresh m address (Ok s) = (sent v fresh m address ≡ Some (view ts s)) × AllNamed (length ts) (written s)
+Sends ts v fresh m address (Ok s) = (sent v fresh m address ≡ Some (view ts s)) × NamesTerms ts s
 Sends ts v fresh m address (Err Full) = (w : RuleScript) × (sent v fresh m address ≡ Some w) × (512 < length w)
 Sends ts v fresh m address (Err (Missing x)) =
     (sent v fresh m address ≡ None) × (x < length ts) × (missing (freshens v fresh) m ≡ Some (tree ts x))

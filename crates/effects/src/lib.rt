@@ -26,8 +26,7 @@ mod tests {
     // Whether a script has exactly these instructions.
     fn is_script(script: &Script, expected: &[Instruction]) -> bool {
         let lines = script.lines();
-        lines.len() == expected.len()
-            && lines.iter().zip(expected).all(|(line, op)| line.op == *op)
+        lines.len() == expected.len() && lines.iter().zip(expected).all(|(line, op)| line.op == *op)
     }
 
     // Parties U (0) and S (1), a number J (2); U starts with S's name and sends S the pair (3) of U and J.

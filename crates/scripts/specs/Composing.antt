@@ -80,7 +80,7 @@ NamesTerms ts s = AllNamed (length ts) (written s)
 
 -- composed as the rules say; full only where what the rules write is longer than 512; missing only where they write nothing
 abbrev pub Puts : List TermNode → Script → ℕ → Result ℕ ScriptError → Script → Type 0
-Puts ts s t (Ok n) s' = (compose (view ts s) (tree ts t) ≡ Some (composed_at n (view ts s'))) × AllKnown (length ts) (written s')
+Puts ts s t (Ok n) s' = (compose (view ts s) (tree ts t) ≡ Some (composed_at n (view ts s'))) × HoldsTerms ts s'
 Puts ts s t (Err Full) s' = (c : Composed) → compose (view ts s) (tree ts t) ≡ Some c → 512 < length c.script
 Puts ts s t (Err (Missing m)) s' = compose (view ts s) (tree ts t) ≡ None
 
@@ -107,6 +107,6 @@ Lacks ts s t (Some m) = (m < length ts) × (missing (view ts s) (tree ts t) ≡ 
 -- Composing a term, whole: what the rules write, under the slot that they answer; refused as full exactly where that is longer than
 -- 512, and for the missing term exactly where they compose nothing. A refusal writes nothing.
 abbrev pub Composes : List TermNode → Script → ℕ → Result ℕ ScriptError → Script → Type 0
-Composes ts s t (Ok n) s' = (compose (view ts s) (tree ts t) ≡ Some (composed_at n (view ts s'))) × AllKnown (length ts) (written s')
+Composes ts s t (Ok n) s' = (compose (view ts s) (tree ts t) ≡ Some (composed_at n (view ts s'))) × HoldsTerms ts s'
 Composes ts s t (Err Full) s' = ((c : Composed) × (compose (view ts s) (tree ts t) ≡ Some c) × (512 < length c.script)) × (written s' ≡ written s)
 Composes ts s t (Err (Missing m)) s' = Lacks ts s t (Some m) × (written s' ≡ written s)

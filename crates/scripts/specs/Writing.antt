@@ -12,18 +12,18 @@ use Rattle.scripts.specs.declared.instruction.ScriptError.TheVariants.{Full, Mis
 use Rattle.scripts.specs.declared.instruction.Taking.{Taking}
 use Rattle.scripts.specs.declared.instruction.Taking.TheVariants.{LeftHalf, RightHalf, Content}
 use Rattle.scripts.specs.declared.script.Script.{Script}
-use Rattle.scripts.specs.Composing.{view, AllNamed}
+use Rattle.scripts.specs.Composing.{view, NamesTerms}
 use Rattle.scripts.specs.View.{written}
 
 -- w is written, or it is longer than 512 and then what is written is of no concern
 abbrev pub Writes : {A : Type 0} → List TermNode → RuleScript → Result A ScriptError → Script → Type 0
-Writes ts w (Ok x) s' = (view ts s' ≡ w) × AllNamed (length ts) (written s')
+Writes ts w (Ok x) s' = (view ts s' ≡ w) × NamesTerms ts s'
 Writes ts w (Err Full) s' = 512 < length w
 Writes ts w (Err (Missing m)) s' = ⊥
 
 -- Writing by a rule that makes w of a script, whole: w is written; refused exactly where w is longer than 512, and then nothing is.
 abbrev pub Wrote : {A : Type 0} → List TermNode → Script → RuleScript → Result A ScriptError → Script → Type 0
-Wrote ts s w (Ok x) s' = (view ts s' ≡ w) × AllNamed (length ts) (written s')
+Wrote ts s w (Ok x) s' = (view ts s' ≡ w) × NamesTerms ts s'
 Wrote ts s w (Err Full) s' = (512 < length w) × (written s' ≡ written s)
 Wrote ts s w (Err (Missing m)) s' = ⊥
 
@@ -75,6 +75,6 @@ brought v op = v then line op None
 -- composing the opener of a key: the slot of it, or none where it cannot be composed
 abbrev pub Unlocks : List TermNode → Script → ℕ → Result (Option ℕ) ScriptError → Script → Type 0
 Unlocks ts s key (Ok None) s' = (compose (view ts s) (opener (tree ts key)) ≡ None) × (s' ≡ s)
-Unlocks ts s key (Ok (Some n)) s' = (compose (view ts s) (opener (tree ts key)) ≡ Some (composed_at n (view ts s'))) × AllNamed (length ts) (written s')
+Unlocks ts s key (Ok (Some n)) s' = (compose (view ts s) (opener (tree ts key)) ≡ Some (composed_at n (view ts s'))) × NamesTerms ts s'
 Unlocks ts s key (Err Full) s' = (c : Composed) × (compose (view ts s) (opener (tree ts key)) ≡ Some c) × (512 < length c.script)
 Unlocks ts s key (Err (Missing m)) s' = ⊥

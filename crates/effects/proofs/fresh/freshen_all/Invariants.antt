@@ -2,7 +2,6 @@ use Rattle.std.proofs.Common.{◌≡◌, ◌-◌, length}
 use Rattle.terms.specs.Listed.{listed}
 use Rattle.rules.specs.Effects.{freshens}
 use Rattle.scripts.specs.Composing.{view, NamesTerms}
-use Rattle.scripts.specs.View.{written}
 use Rattle.effects.specs.Sending.{marked_from, marked_trees, MatesKnown}
 use Rattle.effects.proofs.fresh.freshen_all.Given as goal
 
