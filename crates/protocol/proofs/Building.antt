@@ -26,10 +26,14 @@ use Rattle.terms.proofs.Listed.{orderly}
 use Rattle.scripts.specs.declared.instruction.Line.{Line}
 use Rattle.rules.specs.State.{State, Call as RuleCall, BUILD, Refusal as RuleRefusal, Unknown, WrongKind, NoRoom, Told, formed, mated, outcome, refuses, refused, form_of, place_of, placed, builds, perform}
 use Rattle.protocol.specs.declared.step.Step.{Step}
-use Rattle.protocol.specs.declared.call.Answer.TheVariants.{Number}
-use Rattle.protocol.specs.View.{trees, state_by, scripts_known, steps_known}
+use Rattle.protocol.specs.declared.call.Reply.TheVariants.{Number}
+use Rattle.protocol.specs.States.{trees, state_by, scripts_known, steps_known}
 use Rattle.protocol.specs.Outcome.{Performed, Unaltered, answer_of, number as numberTold}
-use Rattle.protocol.specs.Adding.{refused_as, accepted, Adds}
+use Rattle.std.specs.Prelude.{IsErrAnd}
+use Rattle.std.proofs.lemmas.Result.{err_from_is_err_and}
+use Rattle.protocol.specs.Adding.{accepted, Adds}
+use Rattle.protocol.specs.declared.refusal.Refusal.{Refusal}
+use Rattle.protocol.specs.Refusals.{refused_as}
 use Rattle.protocol.proofs.Trees.{length_trees, nth_trees, none_trees, place_tree, no_place}
 use Rattle.protocol.proofs.Growing.{trees_push, state_more}
 use Rattle.protocol.proofs.Performing.{performed_by}
@@ -147,7 +151,7 @@ module _ (t u : Terms 512) (f a b : ℕ) where
     built_performed (Ok n) i ps ss kp ks =
         let w = i.outcome in
         let x : Term = built (formTree g) (tree ts a) (tree ts b) in
-        performed_by (state_by ts ps ss) call (formed (formTree g) a b n) (state_by us ps ss) (state_by us ps ss) (Number n)
+        performed_by (state_by ts ps ss) call (formed (formTree g) a b n) (state_by us ps ss) (state_by us ps ss) (Ok (Number n))
         (fitting ps ss w.0 w.1
         ∙ placed_by ts us (orderly t) ps ss kp ks call x (formed (formTree g) a b) i.keeps (Built g a b) refl w.0 n w.2 i.stands.1)
         refl refl
@@ -232,11 +236,11 @@ module _ (t u : Terms 512) (a b : ℕ) where
 
   -- the mate is there already
   found_mate : (ps : List (List Line)) (ss : List Step) (n : ℕ) → a < length ks → Key (tree ks a) → ms ≡ ks → n < length ms → tree ms n ≡ mate_of (tree ks a)
-      → Performed (state_by ks ps ss) mating (Number n) (state_by ms ps ss)
+      → Performed (state_by ks ps ss) mating (Ok (Number n)) (state_by ms ps ss)
   found_mate ps ss n l k same ln is =
       let lk : n < length ks = subst (λ vs. n < length vs) same ln in
       let ik : tree ks n ≡ mate_of (tree ks a) = subst (λ vs. tree vs n ≡ mate_of (tree ks a)) same is in
-      performed_by (state_by ks ps ss) mating (mated a n) (state_by ks ps ss) (state_by ms ps ss) (Number n)
+      performed_by (state_by ks ps ss) mating (mated a n) (state_by ks ps ss) (state_by ms ps ss) (Ok (Number n))
       (keyed ps ss l k ∙ placed_there ks (orderly t) ps ss mating (mate_of (tree ks a)) (mated a) n lk ik)
       refl (ap (λ vs. state_by vs ps ss) same)
 
@@ -245,7 +249,7 @@ module _ (t u : Terms 512) (a b : ℕ) where
       → scripts_known (length ks) ps ≡ true → steps_known (length ks) ss ≡ true
       → Performed (state_by ks ps ss) mating (numberTold (accepted o)) (state_by ms ps ss)
   mate_inserted (Ok n) l apart w stands keeps ps ss kp kt =
-      performed_by (state_by ks ps ss) mating (mated a n) (state_by ms ps ss) (state_by ms ps ss) (Number n)
+      performed_by (state_by ks ps ss) mating (mated a n) (state_by ms ps ss) (state_by ms ps ss) (Ok (Number n))
       (keyed ps ss l (asymmetric_key (tree ks a) w.1)
       ∙ placed_by ks ms (orderly t) ps ss kp kt mating (mate_of (tree ks a)) (mated a) keeps (Mate a) (sym (asymmetric_mate (tree ks a) w.1)) w.0 n w.2 stands.1)
       refl refl
@@ -299,3 +303,7 @@ module _ (t u : Terms 512) (a b : ℕ) where
     longer = keeps_longer ks ms m.keeps;
     unaltered = unaltered_accepted o t u m.unchanged;
   })
+
+-- the refusal of the table, as the protocol's
+pub told_refused : (r : Result ℕ Refusal) (e : TermError) → IsErrAnd r (λ x. x ≡ refused_as e) → r ≡ Err (refused_as e)
+told_refused r e h = let q = err_from_is_err_and r h in q.1 ∙ ap Err q.2

@@ -19,14 +19,13 @@ use Rattle.rules.specs.Effects.{freshens, received, overheard}
 use Rattle.rules.specs.State.{State, Outcome, STEP, stepped, nth, party_names, party_of, name_of, fresh_names, place_of, too_long, missing_number, stepped_to, delivers, outcome, refuses, perform}
 use Rattle.rules.specs.State as rules
 use Rattle.rules.proofs.Nth.{nth_in}
-use Rattle.protocol.specs.declared.call.Answer.TheVariants.{Refused}
-use Rattle.protocol.specs.declared.content.Content.{Content}
+use Rattle.protocol.specs.declared.protocol.Protocol.{Protocol}
 use Rattle.protocol.specs.declared.refusal.Refusal.TheVariants.{ScriptFull}
 use Rattle.protocol.specs.declared.step.Delivery.{Delivery}
 use Rattle.protocol.specs.Delivering.{refused_send, Grants}
-use Rattle.protocol.specs.Outcome.{Performed, Sound}
+use Rattle.protocol.specs.Outcome.{Performed}
 use Rattle.protocol.specs.Stepping.{Addressed}
-use Rattle.protocol.specs.View.{state_of}
+use Rattle.protocol.specs.View.{lines_of, view_of}
 use Rattle.protocol.proofs.Addressing.{view_at, addressed_performs}
 use Rattle.protocol.proofs.Trees.{place_tree}
 
@@ -57,21 +56,21 @@ short ts s = le-ltb 512 (length (view ts s)) (omega (arith, length_view (tree ts
 long : (w : RuleScript) → 512 < length w → too_long w ≡ true
 long w l = lt-ltb 512 (length w) l
 
-module _ (c : Content) (s : Sound c) (a b n : ℕ) (d : Delivery) (w : Addressed c a b n d) where
+module _ (c : Protocol) (a b n : ℕ) (d : Delivery) (w : Addressed c a b n d) where
   abbrev st : State
-  st = state_of c
+  st = view_of c
 
   abbrev m : Term
   m = tree (listed c.terms) n
 
   abbrev sa : RuleScript
-  sa = get_or (state_of c).scripts a []
+  sa = get_or (view_of c).scripts a []
 
   abbrev sb : RuleScript
-  sb = get_or (state_of c).scripts b []
+  sb = get_or (view_of c).scripts b []
 
   abbrev sl : RuleScript
-  sl = get_or (state_of c).scripts 0 []
+  sl = get_or (view_of c).scripts 0 []
 
   abbrev na : Term
   na = tree (listed c.terms) d.from
@@ -80,9 +79,9 @@ module _ (c : Content) (s : Sound c) (a b n : ℕ) (d : Delivery) (w : Addressed
   nb = tree (listed c.terms) d.to
 
   delivered : perform st (STEP a b n) ≡ delivers st a b n m sa sb sl na nb d.address
-  delivered = addressed_performs c s a b n d w
+  delivered = addressed_performs c a b n d w
 
-  pub send_refused : (e : ScriptError) → Sends (listed c.terms) sa (fresh_names st m) m d.address (Err e) → Performed st (STEP a b n) (Refused (refused_send e a)) st
+  pub send_refused : (e : ScriptError) → Sends (listed c.terms) sa (fresh_names st m) m d.address (Err e) → Performed st (STEP a b n) (Err (refused_send e a)) st
   send_refused Full p =
       let q = p.1 in
       let l = long p.0 p.2 in
@@ -99,39 +98,36 @@ module _ (c : Content) (s : Sound c) (a b n : ℕ) (d : Delivery) (w : Addressed
     stepping : perform st (STEP a b n) ≡ stepped_to st a b n m (view (listed c.terms) s1) (received sb na m) (overheard sl na nb m)
     stepping = let q = one.0 in delivered ∙ rw q refl
 
-    pub receive_refused : (x : Script) (e : ScriptError) → Effects (listed c.terms) (received (view (listed c.terms) (get_or c.scripts b x)) na m) (Err e) → Performed st (STEP a b n) (Refused (ScriptFull b)) st
-    receive_refused x Full p =
-        let v = view_at c s b x w.receiver_below in
+    pub receive_refused : (x : Script) → nth (lines_of c) b ≡ Some (written x) → (e : ScriptError) → Effects (listed c.terms) (received (view (listed c.terms) x) na m) (Err e) → Performed st (STEP a b n) (Err (ScriptFull b)) st
+    receive_refused x at Full p =
+        let v = view_at c b x at in
         let k = short (listed c.terms) s1 in
         let l = long (received sb na m) (subst (λ y. 512 < length (received y na m)) v p) in
         let z : perform st (STEP a b n) ≡ refuses st (STEP a b n) (rules.ScriptFull b) = stepping ∙ rw (k, l) refl in
         record { answer = rw z refl; after = rw z refl }
-    receive_refused x (Missing t) p = absurd p
+    receive_refused x at (Missing t) p = absurd p
 
-    module _ (x : Script) (s2 : Script) (two : Effects (listed c.terms) (received (view (listed c.terms) (get_or c.scripts b x)) na m) (Ok s2)) where
+    module _ (x : Script) (at : nth (lines_of c) b ≡ Some (written x)) (s2 : Script) (two : Effects (listed c.terms) (received (view (listed c.terms) x) na m) (Ok s2)) where
       second : view (listed c.terms) s2 ≡ received sb na m
-      second = two.0 ∙ ap (λ y. received y na m) (view_at c s b x w.receiver_below)
+      second = two.0 ∙ ap (λ y. received y na m) (view_at c b x at)
 
       stepping_2 : perform st (STEP a b n) ≡ stepped_to st a b n m (view (listed c.terms) s1) (view (listed c.terms) s2) (overheard sl na nb m)
       stepping_2 = stepping ∙ ap (λ y. stepped_to st a b n m (view (listed c.terms) s1) y (overheard sl na nb m)) (sym second)
 
-      there : 0 < c.agents
-      there = omega (arith, w.sender_below)
-
-      pub hear_refused : (z : Script) (e : ScriptError) → Effects (listed c.terms) (overheard (view (listed c.terms) (get_or c.scripts 0 z)) na nb m) (Err e) → Performed st (STEP a b n) (Refused (ScriptFull 0)) st
-      hear_refused z Full p =
-          let v = view_at c s 0 z there in
+      pub hear_refused : (z : Script) → nth (lines_of c) 0 ≡ Some (written z) → (e : ScriptError) → Effects (listed c.terms) (overheard (view (listed c.terms) z) na nb m) (Err e) → Performed st (STEP a b n) (Err (ScriptFull 0)) st
+      hear_refused z there Full p =
+          let v = view_at c 0 z there in
           let k = short (listed c.terms) s1 in
           let j = short (listed c.terms) s2 in
           let l = long (overheard sl na nb m) (subst (λ y. 512 < length (overheard y na nb m)) v p) in
           let q : perform st (STEP a b n) ≡ refuses st (STEP a b n) (rules.ScriptFull 0) = stepping_2 ∙ rw (k, j, l) refl in
           record { answer = rw q refl; after = rw q refl }
-      hear_refused z (Missing t) p = absurd p
+      hear_refused z there (Missing t) p = absurd p
 
-      pub all_granted : (z : Script) (s3 : Script) → Effects (listed c.terms) (overheard (view (listed c.terms) (get_or c.scripts 0 z)) na nb m) (Ok s3)
+      pub all_granted : (z : Script) → nth (lines_of c) 0 ≡ Some (written z) → (s3 : Script) → Effects (listed c.terms) (overheard (view (listed c.terms) z) na nb m) (Ok s3)
           → Grants c a b n (record { sent = s1; received = s2; heard = s3 })
-      all_granted z s3 three =
-          let v : view (listed c.terms) s3 ≡ overheard sl na nb m = three.0 ∙ ap (λ y. overheard y na nb m) (view_at c s 0 z there) in
+      all_granted z there s3 three =
+          let v : view (listed c.terms) s3 ≡ overheard sl na nb m = three.0 ∙ ap (λ y. overheard y na nb m) (view_at c 0 z there) in
           let k = short (listed c.terms) s1 in
           let j = short (listed c.terms) s2 in
           let i = short (listed c.terms) s3 in

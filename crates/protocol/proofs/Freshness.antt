@@ -18,59 +18,59 @@ use Rattle.freshness.proofs.Naming.{fresh_by_rules}
 use Rattle.rules.specs.State.{is_fresh, fresh_among, fresh_names, place_of}
 use Rattle.rules.proofs.Law.{came_stable}
 use Rattle.rules.proofs.Nth.{place_is, place_none, nth_below, some_is}
-use Rattle.protocol.specs.declared.content.Content.{Content}
-use Rattle.protocol.specs.Outcome.{Sound}
+use Rattle.protocol.specs.declared.protocol.Protocol.{Protocol}
 use Rattle.protocol.specs.Stepping.{ShowsUsed}
-use Rattle.protocol.specs.View.{trees_from, trees, state_of}
+use Rattle.protocol.specs.States.{trees_from, trees}
+use Rattle.protocol.specs.View.{view_of}
 use Rattle.protocol.proofs.Trees.{nth_trees, length_trees, trees_in}
 
-module _ (c : Content) (s : Sound c) (m : ℕ) (lm : m < length (listed c.terms)) (shown : List Bool) (uses : ShowsUsed c shown) (fresh : List Bool)
+module _ (c : Protocol) (m : ℕ) (lm : m < length (listed c.terms)) (shown : List Bool) (uses : ShowsUsed c shown) (fresh : List Bool)
     (names : FreshNames (listed c.terms) shown m fresh) where
-  is_fresh_lem : (i : ℕ) → i < length (listed c.terms) → get_or fresh i false ≡ is_fresh (state_of c) (tree (listed c.terms) m) (tree (listed c.terms) i)
+  is_fresh_lem : (i : ℕ) → i < length (listed c.terms) → get_or fresh i false ≡ is_fresh (view_of c) (tree (listed c.terms) m) (tree (listed c.terms) i)
   is_fresh_lem i l =
-      names.fresh lm i l ∙ fresh_by_rules (state_of c) (held_terms (listed c.terms) shown) uses.uses (tree (listed c.terms) m) (tree (listed c.terms) i)
+      names.fresh lm i l ∙ fresh_by_rules (view_of c) (held_terms (listed c.terms) shown) uses.uses (tree (listed c.terms) m) (tree (listed c.terms) i)
 
   from_on : (n k : ℕ) → n + k ≤ length (listed c.terms)
-      → marked_from (listed c.terms) fresh n k ≡ fresh_among (state_of c) (tree (listed c.terms) m) (trees_from (listed c.terms) n k)
+      → marked_from (listed c.terms) fresh n k ≡ fresh_among (view_of c) (tree (listed c.terms) m) (trees_from (listed c.terms) n k)
   from_on n zero l = refl
   from_on n (suc k) l = rw (is_fresh_lem n (omega arith), from_on (n + 1) k (omega arith)) refl
 
-  pub fresh_marked : marked_trees (listed c.terms) fresh ≡ fresh_names (state_of c) (tree (listed c.terms) m)
+  pub fresh_marked : marked_trees (listed c.terms) fresh ≡ fresh_names (view_of c) (tree (listed c.terms) m)
   unfolding trees
   fresh_marked = from_on 0 (length (listed c.terms)) (omega arith)
 
   pub names_marked : NamesMarked (listed c.terms) fresh
   names_marked i l e = go (node_at (listed c.terms) i) refl
     where
-      fresh_here : is_fresh (state_of c) (tree (listed c.terms) m) (tree (listed c.terms) i) ≡ true
+      fresh_here : is_fresh (view_of c) (tree (listed c.terms) m) (tree (listed c.terms) i) ≡ true
       fresh_here = sym (is_fresh_lem i l) ∙ e
 
       go : (r : TermNode) → node_at (listed c.terms) i ≡ r → (k : Kind) × (j : ℕ) × (node_at (listed c.terms) i ≡ Name k j)
       go (Name k j) q = (k, j, q)
       go (Built f a b) q =
-          absurd (false≢true (sym (ap (is_fresh (state_of c) (tree (listed c.terms) m)) (tree_at (listed c.terms) (orderly c.terms).lower i (Built f a b) l q)) ∙ fresh_here))
+          absurd (false≢true (sym (ap (is_fresh (view_of c) (tree (listed c.terms) m)) (tree_at (listed c.terms) (orderly c.terms).lower i (Built f a b) l q)) ∙ fresh_here))
       go (Mate a) q =
-          absurd (false≢true (sym (ap (is_fresh (state_of c) (tree (listed c.terms) m)) (tree_at (listed c.terms) (orderly c.terms).lower i (Mate a) l q)) ∙ fresh_here))
+          absurd (false≢true (sym (ap (is_fresh (view_of c) (tree (listed c.terms) m)) (tree_at (listed c.terms) (orderly c.terms).lower i (Mate a) l q)) ∙ fresh_here))
 
 -- beside a public key its mate is a term
-module _ (c : Content) (s : Sound c) where
-  has_mate : (i : ℕ) → i < length (listed c.terms) → (j : ℕ) → tree (listed c.terms) i ≡ name public j → (In (mate (name public j)) (state_of c).terms → ⊥) → ⊥
+module _ (c : Protocol) where
+  has_mate : (i : ℕ) → i < length (listed c.terms) → (j : ℕ) → tree (listed c.terms) i ≡ name public j → (In (mate (name public j)) (view_of c).terms → ⊥) → ⊥
   has_mate i l j e none =
-      ∥∥₁_elim s.came (λ x y. absurd x) (λ w. none ((came_stable w.0 (state_of c) w.1).numbers.with_mates j (subst (λ t. In t (state_of c).terms) e (trees_in (listed c.terms) i l))))
+      ∥∥₁_elim c.came (λ x y. absurd x) (λ w. none ((came_stable w.0 (view_of c) w.1).numbers.with_mates j (subst (λ t. In t (view_of c).terms) e (trees_in (listed c.terms) i l))))
 
   mate_known : (i : ℕ) → i < length (listed c.terms) → MateKnown (listed c.terms) i
   mate_known i l p = go (tree (listed c.terms) i) refl p
     where
-      place : (j : ℕ) → tree (listed c.terms) i ≡ name public j → (o : Option ℕ) → place_of (state_of c).terms (mate (name public j)) ≡ o
+      place : (j : ℕ) → tree (listed c.terms) i ≡ name public j → (o : Option ℕ) → place_of (view_of c).terms (mate (name public j)) ≡ o
           → (x : ℕ) × (x < length (listed c.terms)) × (tree (listed c.terms) x ≡ mate (tree (listed c.terms) i))
-      place j e None q = absurd (has_mate i l j e (place_none (state_of c).terms (mate (name public j)) q))
+      place j e None q = absurd (has_mate i l j e (place_none (view_of c).terms (mate (name public j)) q))
       place j e (Some x) q =
-          let y = place_is (state_of c).terms (mate (name public j)) x q in
-          let b : x < length (listed c.terms) = omega (arith, nth_below (state_of c).terms x (mate (name public j)) y, length_trees (listed c.terms)) in
+          let y = place_is (view_of c).terms (mate (name public j)) x q in
+          let b : x < length (listed c.terms) = omega (arith, nth_below (view_of c).terms x (mate (name public j)) y, length_trees (listed c.terms)) in
           (x, b, some_is (sym (nth_trees (listed c.terms) x b) ∙ y) ∙ ap mate (sym e))
 
       go : (t : Term) → tree (listed c.terms) i ≡ t → Named public t → (x : ℕ) × (x < length (listed c.terms)) × (tree (listed c.terms) x ≡ mate (tree (listed c.terms) i))
-      go (name k j) e q = let f : tree (listed c.terms) i ≡ name public j = e ∙ ap (λ z. name z j) q in place j f (place_of (state_of c).terms (mate (name public j))) refl
+      go (name k j) e q = let f : tree (listed c.terms) i ≡ name public j = e ∙ ap (λ z. name z j) q in place j f (place_of (view_of c).terms (mate (name public j))) refl
       go (built f a b) e q = absurd q
       go (mate k) e q = absurd q
 

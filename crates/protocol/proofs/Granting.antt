@@ -1,8 +1,10 @@
 -- Putting a step's scripts in place.
-use Rattle.std.proofs.Common.{◌≡◌, ℕ, ◌+◌, ◌<◌, List, [], ◌∷◌, ◌++◌, map, length, take, set, sym, refl, ap, ◌∙◌, ap₂, arith, length-set}
-use lib.Seq.{take-set-lt}
-use Rattle.std.proofs.lemmas.List.{map-set, take_more_set}
-use Rattle.terms.specs.declared.node.TermNode.{TermNode}
+use Rattle.std.proofs.Common.{◌≡◌, true, Ok, Err, Result, ℕ, ◌<◌, List, [], ◌∷◌, ◌++◌, map, length, set, sym, refl, ap, ◌∙◌, ap₂, arith}
+use Rattle.std.specs.Prelude.{OnOk, OnErr, slice_set}
+use Rattle.bounded.specs.declared.list.BoundedVec.{BoundedVec}
+use Rattle.bounded.specs.declared.list.Full.{Full as NoPlace}
+use Rattle.bounded.specs.Items.{items}
+use Rattle.std.proofs.lemmas.List.{map-set}
 use Rattle.terms.specs.Listed.{listed}
 use Rattle.terms.specs.Tree.{tree}
 use Rattle.scripts.specs.declared.instruction.Line.{Line}
@@ -10,75 +12,60 @@ use Rattle.scripts.specs.Composing.{view}
 use Rattle.scripts.specs.Lines.{script_of}
 use Rattle.scripts.specs.View.{written}
 use Rattle.scripts.proofs.View.{length_view}
-use Rattle.rules.specs.State.{Step as RuleStep, STEP, stepped}
-use Rattle.protocol.specs.declared.call.Answer.TheVariants.{Number}
-use Rattle.protocol.specs.declared.content.Content.{Content}
-use Rattle.protocol.specs.declared.content.delivering.Delivered.{Delivered}
+use Rattle.scripts.specs.declared.script.Script.{Script}
+use Rattle.rules.specs.State.{State, Step as RuleStep, STEP, stepped}
+use Rattle.protocol.specs.declared.call.Reply.TheVariants.{Number}
+use Rattle.protocol.specs.declared.protocol.Protocol.{Protocol}
+use Rattle.protocol.specs.declared.protocol.delivering.Delivered.{Delivered}
 use Rattle.protocol.specs.declared.step.Delivery.{Delivery}
 use Rattle.protocol.specs.declared.step.Step.{Step}
-use Rattle.protocol.specs.Delivering.{after_step, Grants, step_with, Granted}
-use Rattle.protocol.specs.Outcome.{Performed, Sound}
+use Rattle.protocol.specs.Delivering.{after_step, Grants, step_with}
+use Rattle.protocol.specs.Outcome.{Performed}
 use Rattle.protocol.specs.Stepping.{Addressed}
-use Rattle.protocol.specs.View.{lines_of, steps_of, step_of, state_by, state_of, scripts_known, steps_known}
+use Rattle.protocol.specs.States.{are_all_known, step_of, state_by, scripts_known, steps_known}
+use Rattle.protocol.specs.View.{lines_of, steps_of, view_of}
 use Rattle.protocol.proofs.Known.{and_both, set_known, step_known, all_scripts, all_steps}
 use Rattle.protocol.proofs.Performing.{performed_by}
 use Rattle.protocol.proofs.Reaching.{reached_next}
-use Rattle.protocol.proofs.Addressing.{state_steps}
+use Rattle.protocol.specs.Reached.{Reached}
+use Rattle.protocol.proofs.Reading.{steps_are}
 
 map_more : {A B : Type 0} (f : A → B) (xs : List A) (x : A) → map f (xs ++ (x ∷ [])) ≡ map f xs ++ (f x ∷ [])
 map_more f [] x = refl
 map_more f (y ∷ xs) x = ap (λ r. f y ∷ r) (map_more f xs x)
 
--- a record by its lengths
-pub same_step : (a b n : ℕ) (d : Delivered) (s' r' h' : ℕ) → s' ≡ length (written d.sent) → r' ≡ length (written d.received) → h' ≡ length (written d.heard)
-    → ◌≡◌ {A = Step} (record { sender = a; receiver = b; message = n; sent = s'; received = r'; heard = h' })
-    (record { sender = a; receiver = b; message = n; sent = length (written d.sent); received = length (written d.received); heard = length (written d.heard) })
-same_step a b n d s' r' h' e1 e2 e3 = rw (e1, e2, e3) refl
+-- three scripts put in their places, one after the other
+pub three_placed : (xs x1 x2 x3 : List Script) (a b : ℕ) (s r h : Script) → x1 ≡ slice_set xs a s → x2 ≡ slice_set x1 b r → x3 ≡ slice_set x2 0 h
+    → x3 ≡ slice_set (slice_set (slice_set xs a s) b r) 0 h
+three_placed xs x1 x2 x3 a b s r h e1 e2 e3 = e3 ∙ ap (λ v. slice_set v 0 h) (e2 ∙ ap (λ v. slice_set v b r) e1)
 
-module _ (c : Content) (s : Sound c) (a b n : ℕ) (la : a < c.agents) (lb : b < c.agents) (room : c.granted < 64) (d : Delivered) where
-  three_lines : take c.agents (map written (set (set (set c.scripts a d.sent) b d.received) 0 d.heard))
-      ≡ set (set (set (lines_of c) a (written d.sent)) b (written d.received)) 0 (written d.heard)
-  three_lines =
-      let xs = map written c.scripts in
-      let x1 = set xs a (written d.sent) in
-      let x2 = set x1 b (written d.received) in
-      ap (take c.agents)
-      (map-set written (set (set c.scripts a d.sent) b d.received) 0 d.heard
-      ∙ ap (λ v. set v 0 (written d.heard))
-      (map-set written (set c.scripts a d.sent) b d.received ∙ ap (λ v. set v b (written d.received)) (map-set written c.scripts a d.sent)))
-      ∙ take-set-lt c.agents x2 0 (written d.heard) (omega (arith, la))
-      ∙ ap (λ v. set v 0 (written d.heard))
-      (take-set-lt c.agents x1 b (written d.received) lb
-      ∙ ap (λ v. set v b (written d.received)) (take-set-lt c.agents xs a (written d.sent) la))
+-- the record of a step put behind the others, for which there is a place
+placed : (xs xs' : List Step) (r : Result ℕ NoPlace) (x : Step) → OnOk r (xs' ≡ xs ++ (x ∷ [])) → OnErr r (length xs ≡ 64) → length xs < 64 → xs' ≡ xs ++ (x ∷ [])
+placed xs xs' (Ok n) x ok full few = ok
+placed xs xs' (Err e) x ok full few = absurd (omega (arith, full))
 
-  pub in_place : (x : Step) → x ≡ step_with c a b n d
-      → Granted c a b n d c.granted (record { terms = c.terms; scripts = set (set (set c.scripts a d.sent) b d.received) 0 d.heard; agents = c.agents; steps = set c.steps c.granted x; granted = c.granted + 1 })
-  in_place x e = record {
-    next = refl;
-    terms = refl;
-    agents = refl;
-    granted = refl;
-    lines = three_lines;
-    steps = take_more_set c.steps c.granted x (omega (arith, room, s.steps_size)) ∙ ap (λ y. steps_of c ++ (y ∷ [])) e;
-    scripts_size = simp length-set s.scripts_size;
-    steps_size = simp length-set s.steps_size;
-  }
+pub recorded_last : (c : Protocol) → length (steps_of c) < 64 → (r : Result ℕ NoPlace) (v : BoundedVec Step 64) (x y : Step)
+    → OnOk r (items v ≡ items c.steps ++ (y ∷ [])) → OnErr r (length (items c.steps) ≡ 64) → y ≡ x → items v ≡ steps_of c ++ (x ∷ [])
+recorded_last c room r v x y ok full is = placed (items c.steps) (items v) r y ok full room ∙ ap (λ z. steps_of c ++ (z ∷ [])) is
 
-module _ (c : Content) (s : Sound c) (a b n : ℕ) (w : Delivery) (ad : Addressed c a b n w) (d : Delivered) (gs : Grants c a b n d) (r : ℕ) (c' : Content) (g : Granted c a b n d r c') where
-  ts : List TermNode
-  ts = listed c.terms
-
+module _ (c : Protocol) (a b n : ℕ) (w : Delivery) (ad : Addressed c a b n w) (d : Delivered) (gs : Grants c a b n d)
+    (ss : List Script) (are : ss ≡ slice_set (slice_set (slice_set (items c.scripts) a d.sent) b d.received) 0 d.heard)
+    (xs : List Step) (more : xs ≡ steps_of c ++ (step_with a b n d ∷ [])) where
   abbrev lines' : List (List Line)
   lines' = set (set (set (lines_of c) a (written d.sent)) b (written d.received)) 0 (written d.heard)
 
-  state_is : state_of c' ≡ state_by (listed c.terms) lines' (steps_of c ++ (step_with c a b n d ∷ []))
-  state_is =
-      ap (λ t. state_by (listed t) (lines_of c') (steps_of c')) g.terms
-      ∙ ap (λ ls. state_by (listed c.terms) ls (steps_of c')) g.lines
-      ∙ ap (state_by (listed c.terms) lines') g.steps
+  abbrev st' : State
+  st' = state_by (listed c.terms) (map written ss) xs
+
+  lines_are : map written ss ≡ lines'
+  lines_are =
+      ap (map written) are
+      ∙ map-set written (set (set (items c.scripts) a d.sent) b d.received) 0 d.heard
+      ∙ ap (λ v. set v 0 (written d.heard))
+      (map-set written (set (items c.scripts) a d.sent) b d.received ∙ ap (λ v. set v b (written d.received)) (map-set written (items c.scripts) a d.sent))
 
   scripts_are : map (script_of (tree (listed c.terms))) lines'
-      ≡ set (set (set (state_of c).scripts a (view (listed c.terms) d.sent)) b (view (listed c.terms) d.received)) 0 (view (listed c.terms) d.heard)
+      ≡ set (set (set (view_of c).scripts a (view (listed c.terms) d.sent)) b (view (listed c.terms) d.received)) 0 (view (listed c.terms) d.heard)
   scripts_are =
       let f = script_of (tree (listed c.terms)) in
       map-set f (set (set (lines_of c) a (written d.sent)) b (written d.received)) 0 (written d.heard)
@@ -90,33 +77,28 @@ module _ (c : Content) (s : Sound c) (a b n : ℕ) (w : Delivery) (ad : Addresse
       (record { sender = a; receiver = b; message = m; sent = x'; received = y'; heard = z' })
   same_rule m x x' y y' z z' e1 e2 e3 = rw (e1, e2, e3) refl
 
-  after_is : state_of c' ≡ after_step c a b n (view (listed c.terms) d.sent) (view (listed c.terms) d.received) (view (listed c.terms) d.heard)
+  after_is : st' ≡ after_step c a b n (view (listed c.terms) d.sent) (view (listed c.terms) d.received) (view (listed c.terms) d.heard)
   after_is =
       let T = tree (listed c.terms) in
-      state_is
-      ∙ ap₂ (λ ss xs. record { terms = (state_of c).terms; scripts = ss; steps = xs }) scripts_are
-      (map_more (step_of T) (steps_of c) (step_with c a b n d)
-      ∙ ap (λ x. (state_of c).steps ++ (x ∷ []))
+      ap₂ (state_by (listed c.terms)) lines_are more
+      ∙ ap₂ (λ ps ys. record { terms = (view_of c).terms; scripts = ps; steps = ys }) scripts_are
+      (map_more (step_of T) (steps_of c) (step_with a b n d)
+      ∙ ap (λ x. (view_of c).steps ++ (x ∷ []))
       (same_rule (T n) _ _ _ _ _ _ (sym (length_view T (written d.sent))) (sym (length_view T (written d.received))) (sym (length_view T (written d.heard)))))
 
-  pub step_performed : Performed (state_of c) (STEP a b n) (Number r) (state_of c')
-  step_performed =
-      performed_by (state_of c) (STEP a b n) (stepped a b n (length (state_of c).steps)) _ (state_of c') (Number r) gs.performs (ap Number (g.next ∙ sym (state_steps c s))) after_is
+  pub step_performed : (r : ℕ) → r ≡ length (steps_of c) → Performed (view_of c) (STEP a b n) (Ok (Number r)) st'
+  step_performed r next =
+      performed_by (view_of c) (STEP a b n) (stepped a b n (length (view_of c).steps)) _ st' (Ok (Number r)) gs.performs (ap (λ m. Ok (Number m)) (next ∙ sym (steps_are c))) after_is
 
-  pub step_sound : Sound c'
-  step_sound = record {
-    agents_few = omega (arith, g.agents, s.agents_few);
-    steps_few = omega (arith, g.granted, ad.room);
-    scripts_size = g.scripts_size;
-    steps_size = g.steps_size;
-    known =
-        let n = length (listed c.terms) in
-        let e : length (listed c'.terms) ≡ n = ap (λ t. length (listed t)) g.terms in
-        and_both (scripts_known (length (listed c'.terms)) (lines_of c')) (steps_known (length (listed c'.terms)) (steps_of c'))
-        (ap₂ scripts_known e g.lines
-        ∙ set_known n (set (set (lines_of c) a (written d.sent)) b (written d.received)) 0 (written d.heard)
-        (set_known n (set (lines_of c) a (written d.sent)) b (written d.received) (set_known n (lines_of c) a (written d.sent) (all_scripts c s.known) gs.sent_known) gs.received_known)
-        gs.heard_known)
-        (ap₂ steps_known e g.steps ∙ step_known n (steps_of c) (step_with c a b _ d) (all_steps c s.known) ad.message_below);
-    came = reached_next (state_of c) (state_of c') (STEP a b n) s.came step_performed.after;
-  }
+  pub step_all_known : are_all_known (listed c.terms) (map written ss) xs ≡ true
+  step_all_known =
+      let n' = length (listed c.terms) in
+      and_both (scripts_known n' (map written ss)) (steps_known n' xs)
+      (ap (scripts_known n') lines_are
+      ∙ set_known n' (set (set (lines_of c) a (written d.sent)) b (written d.received)) 0 (written d.heard)
+      (set_known n' (set (lines_of c) a (written d.sent)) b (written d.received) (set_known n' (lines_of c) a (written d.sent) (all_scripts c) gs.sent_known) gs.received_known)
+      gs.heard_known)
+      (ap (steps_known n') more ∙ step_known n' (steps_of c) (step_with a b n d) (all_steps c) ad.message_below)
+
+  pub step_came : Reached st'
+  step_came = reached_next (view_of c) st' (STEP a b n) c.came (step_performed (length (steps_of c)) refl).after

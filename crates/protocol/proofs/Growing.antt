@@ -1,8 +1,5 @@
 -- A table that grows: the state of the rules keeps its scripts and steps, and its terms go on.
-use Rattle.std.proofs.Common.{◌≡◌, ℕ, zero, suc, ◌+◌, ◌<◌, ◌≤◌, Bool, true, false, ◌&&◌, ltb, List, [], ◌∷◌, ◌++◌, map, length, take, set, Some, None, Option, refl, ap, ◌∙◌, ap₂, arith, length-append, length-take-le, ltb-true, lt-ltb}
-use lib.ListN.{length-map}
-use lib.Seq.{map-set}
-use Rattle.std.proofs.lemmas.List.{take_more_set}
+use Rattle.std.proofs.Common.{◌≡◌, ℕ, zero, suc, ◌+◌, ◌<◌, ◌≤◌, Bool, true, false, ◌&&◌, ltb, List, [], ◌∷◌, ◌++◌, map, length, Some, None, Option, refl, ap, ◌∙◌, ap₂, arith, length-append, ltb-true, lt-ltb}
 use Rattle.deduction.specs.Term.{Term}
 use Rattle.terms.specs.declared.node.TermNode.{TermNode}
 use Rattle.terms.specs.Tree.{tree}
@@ -12,15 +9,12 @@ use Rattle.terms.proofs.Grow.{tree_append}
 use Rattle.scripts.specs.declared.instruction.Instruction.{Instruction}
 use Rattle.scripts.specs.declared.instruction.Instruction.TheVariants.{Given, Fresh, From, To, Recv, Mate, Left, Right, Join, Seal, Digest, Entry, Open, Same, Send}
 use Rattle.scripts.specs.declared.instruction.Line.{Line}
-use Rattle.scripts.specs.declared.script.Script.{Script}
 use Rattle.scripts.specs.Composing.{Below, OpBelow, AllNamed}
 use Rattle.scripts.specs.Lines.{op_of, held_of, script_of}
-use Rattle.scripts.specs.View.{written}
 use Rattle.rules.specs.State.{Step as RuleStep}
 use Rattle.rules.specs.Script.{Script as RuleScript}
 use Rattle.protocol.specs.declared.step.Step.{Step}
-use Rattle.protocol.specs.declared.content.Content.{Content}
-use Rattle.protocol.specs.View.{trees_from, trees, lines_of, step_of, state_by, holds_known, op_known, lines_known, scripts_known, steps_known}
+use Rattle.protocol.specs.States.{trees_from, trees, step_of, state_by, holds_known, op_known, lines_known, scripts_known, steps_known}
 
 -- tests joined by and
 pub both : (x y : Bool) → x ≡ true → y ≡ true → (x && y) ≡ true
@@ -229,12 +223,3 @@ state_more ts us ps ss new keeps e kp ks =
 -- one term more
 pub trees_push : (ts us : List TermNode) (t : Term) → Keeps ts us → length us ≡ length ts + 1 → tree us (length ts) ≡ t → trees us ≡ trees ts ++ (t ∷ [])
 trees_push ts us t keeps l e = trees_more ts us keeps 1 l ∙ ap (λ x. trees ts ++ (x ∷ [])) e
-
--- how many scripts there are
-pub lines_length : (c : Content) → c.agents ≤ length c.scripts → length (lines_of c) ≡ c.agents
-lines_length c l = length-take-le c.agents (map written c.scripts) (omega (arith, length-map c.scripts written))
-
--- one agent more
-pub lines_push : (ps : List Script) (n : ℕ) (s : Script) → n < length ps → take (n + 1) (map written (set ps n s)) ≡ take n (map written ps) ++ (written s ∷ [])
-lines_push ps n s l =
-    ap (take (n + 1)) (map-set written ps n s) ∙ take_more_set (map written ps) n (written s) (omega (arith, length-map ps written))

@@ -1,6 +1,7 @@
 -- Where an agent's part of a step begins, told from its script and the steps before.
-use Rattle.std.proofs.Common.{◌≡◌, ℕ, zero, suc, ◌+◌, ◌-◌, ◌<◌, ◌≤◌, List, [], ◌∷◌, ◌++◌, map, length, get_or, take, drop, Some, None, sym, refl, ap, ◌∙◌, arith}
-use Rattle.std.proofs.lemmas.List.{get_or-map, length-map}
+use Rattle.std.proofs.Common.{◌≡◌, min, get_or-take, ℕ, zero, suc, ◌+◌, ◌-◌, ◌<◌, ◌≤◌, List, [], ◌∷◌, ◌++◌, map, length, get_or, take, drop, Some, None, sym, refl, ap, ◌∙◌, arith}
+use Rattle.std.proofs.lemmas.List.{length-take, take_min}
+use Rattle.bounded.specs.Items.{items}
 use Rattle.deduction.specs.Term.{party, Term, name}
 use Rattle.terms.specs.Listed.{listed}
 use Rattle.terms.specs.Tree.{tree}
@@ -8,6 +9,7 @@ use Rattle.scripts.specs.declared.instruction.Instruction.{Instruction}
 use Rattle.scripts.specs.declared.instruction.Instruction.TheVariants.{Given, Fresh, From, To, Recv, Mate, Left, Right, Join, Seal, Digest, Entry, Open, Same, Send}
 use Rattle.scripts.specs.declared.instruction.Line.{Line}
 use Rattle.scripts.specs.declared.script.Script.{Script}
+use Rattle.scripts.specs.Composing.{view}
 use Rattle.scripts.specs.Lines.{op_of, script_of}
 use Rattle.scripts.specs.View.{written}
 use Rattle.scripts.proofs.Judging.{get_d_past}
@@ -18,12 +20,13 @@ use Rattle.parts.proofs.Reached.{reached_push}
 use Rattle.rules.specs.State.{nth}
 use Rattle.rules.proofs.Find.{some_none}
 use Rattle.rules.proofs.Nth.{nth_at, some_is}
-use Rattle.protocol.specs.declared.content.Content.{Content}
+use Rattle.protocol.specs.declared.protocol.Protocol.{Protocol}
 use Rattle.protocol.specs.declared.step.Step.{Step}
-use Rattle.protocol.specs.Outcome.{Sound}
 use Rattle.protocol.specs.Reading.{opens_by, opening_of, end_of}
-use Rattle.protocol.specs.View.{lines_of, steps_of, step_of, state_of}
-use Rattle.protocol.proofs.Reading.{agents_length, script_at, step_at}
+use Rattle.protocol.specs.States.{step_of}
+use Rattle.protocol.specs.View.{lines_of, steps_of, view_of}
+use Rattle.protocol.proofs.Asking.{state_script}
+use Rattle.protocol.proofs.Reading.{agents_are, nth_is, nth_map, steps_are}
 
 -- an instruction opens as its tree does
 opens_view : (T : ℕ → Term) (o : Instruction) (n : ℕ) → opens (op_of T o) n ≡ opens_by o n
@@ -100,32 +103,33 @@ take_next [] k x e = absurd (some_none None e refl)
 take_next (y ∷ xs) zero x e = ap (λ z. z ∷ []) (some_is e)
 take_next (y ∷ xs) (suc k) x e = ap (λ zs. y ∷ zs) (take_next xs k x e)
 
-nth_map : {A B : Type 0} (f : A → B) (xs : List A) (k : ℕ) (x : A) → nth xs k ≡ Some x → nth (map f xs) k ≡ Some (f x)
-nth_map f [] k x e = absurd (some_none None e refl)
-nth_map f (y ∷ xs) zero x e = ap (λ z. Some (f z)) (some_is e)
-nth_map f (y ∷ xs) (suc k) x e = nth_map f xs k x e
-
-module _ (c : Content) (s : Sound c) (p : ℕ) where
+module _ (c : Protocol) (p : ℕ) where
   -- the opening of the agent's script
-  pub agent_initial : (d : Script) → p < c.agents → opening_of (written (get_or c.scripts p d)) ≡ initial (state_of c) p
-  agent_initial d lp =
-      let T = tree (listed c.terms) in
-      let e = some_is (sym (nth_at (lines_of c) p [] (omega (arith, lp, agents_length c s))) ∙ script_at c s p d lp) in
-      sym (ap opening (get_or-map (script_of T) (lines_of c) p [] [] (omega (arith, lp, agents_length c s)))
-      ∙ (opening_view T (get_or (lines_of c) p []) ∙ ap opening_of e))
+  pub agent_initial : (x : Script) → nth (lines_of c) p ≡ Some (written x) → opening_of (written x) ≡ initial (view_of c) p
+  agent_initial x at =
+      sym (ap opening (nth_is (view_of c).scripts p (view (listed c.terms) x) [] (state_script c p x at)) ∙ opening_view (tree (listed c.terms)) (written x))
 
-  pub none_initial : c.agents ≤ p → 0 ≡ initial (state_of c) p
-  none_initial lp =
-      sym (ap opening (get_d_past (map (script_of (tree (listed c.terms))) (lines_of c)) p []
-      (simp length-map (omega (arith, lp, agents_length c s)))))
+  pub none_initial : length (lines_of c) ≤ p → 0 ≡ initial (view_of c) p
+  none_initial lp = sym (ap opening (get_d_past (view_of c).scripts p [] (omega (arith, lp, agents_are c))))
 
   -- one step more
-  pub one_earlier : (k n : ℕ) (d : Step) → k < c.granted → n ≡ begin (state_of c) k p → end_of (get_or c.steps k d) p n ≡ begin (state_of c) (k + 1) p
-  one_earlier k n d h e =
+  pub one_earlier : (k n : ℕ) (x : Step) → nth (steps_of c) k ≡ Some x → n ≡ begin (view_of c) k p → end_of x p n ≡ begin (view_of c) (k + 1) p
+  one_earlier k n x at e =
       let f = step_of (tree (listed c.terms)) in
-      let x = get_or c.steps k d in
       let q : suc k ≡ k + 1 = omega arith in
       ap (end_of x p) e
-      ∙ (sym (ap (λ xs. reached xs (initial (state_of c) p) p) (take_next (map f (steps_of c)) k (f x) (nth_map f (steps_of c) k x (step_at c s k d h)))
-      ∙ reached_push (take k (state_of c).steps) (f x) (initial (state_of c) p) p)
-      ∙ ap (λ m. begin (state_of c) m p) q)
+      ∙ (sym (ap (λ xs. reached xs (initial (view_of c) p) p) (take_next (map f (steps_of c)) k (f x) (nth_map f (steps_of c) k x at))
+      ∙ reached_push (take k (view_of c).steps) (f x) (initial (view_of c) p) p)
+      ∙ ap (λ m. begin (view_of c) m p) q)
+
+  -- the steps before the l-th, read one after the other
+  module _ (xs : List Step) (is : xs ≡ items c.steps) (m l : ℕ) (few : m ≡ min l (length xs)) where
+    pub one_earlier_read : (k n : ℕ) (d : Step) → k < length (take m xs) → n ≡ begin (view_of c) k p → end_of (get_or (take m xs) k d) p n ≡ begin (view_of c) (k + 1) p
+    one_earlier_read k n d h e =
+        one_earlier k n (get_or (take m xs) k d)
+        (ap (λ ys. nth ys k) (sym is) ∙ nth_at xs k d (omega (arith, h, length-take m xs)) ∙ ap Some (sym (get_or-take m xs k d (omega (arith, h, length-take m xs))))) e
+
+    pub all_earlier : (k : ℕ) → length (take m xs) ≤ k → k ≤ length (take m xs) → begin (view_of c) k p ≡ begin (view_of c) l p
+    all_earlier k h g =
+        let q : k ≡ min l (length (view_of c).steps) = omega (arith, h, g, few, length-take m xs, ap length is, steps_are c) in
+        ap (λ ys. reached ys (initial (view_of c) p) p) (ap (λ j. take j (view_of c).steps) q ∙ take_min l (view_of c).steps)

@@ -9,9 +9,10 @@ use Rattle.scripts.specs.Composing.{Below, OpBelow, AllNamed}
 use Rattle.rules.specs.State.{nth}
 use Rattle.rules.proofs.Find.{some_none}
 use Rattle.rules.proofs.Nth.{some_is}
-use Rattle.protocol.specs.declared.content.Content.{Content}
+use Rattle.protocol.specs.declared.protocol.Protocol.{Protocol}
 use Rattle.protocol.specs.declared.step.Step.{Step}
-use Rattle.protocol.specs.View.{lines_of, steps_of, holds_known, op_known, lines_known, scripts_known, steps_known, are_all_known}
+use Rattle.protocol.specs.States.{holds_known, op_known, lines_known, scripts_known, steps_known}
+use Rattle.protocol.specs.View.{lines_of, steps_of}
 
 pub and_first : (a b : Bool) → (a && b) ≡ true → a ≡ true
 and_first true b e = refl
@@ -105,9 +106,9 @@ message_known n [] i s e q = absurd (some_none None q refl)
 message_known n (x ∷ ss) zero s e q = let l = ltb-true x.message n (and_first (ltb x.message n) (steps_known n ss) e) in omega (arith, l, ap (λ y. y.message) (some_is q))
 message_known n (x ∷ ss) (suc i) s e q = message_known n ss i s (and_second (ltb x.message n) (steps_known n ss) e) q
 
-module _ (c : Content) (k : are_all_known c ≡ true) where
+module _ (c : Protocol) where
   pub all_scripts : scripts_known (length (listed c.terms)) (lines_of c) ≡ true
-  all_scripts = and_first (scripts_known (length (listed c.terms)) (lines_of c)) (steps_known (length (listed c.terms)) (steps_of c)) k
+  all_scripts = and_first (scripts_known (length (listed c.terms)) (lines_of c)) (steps_known (length (listed c.terms)) (steps_of c)) c.known
 
   pub all_steps : steps_known (length (listed c.terms)) (steps_of c) ≡ true
-  all_steps = and_second (scripts_known (length (listed c.terms)) (lines_of c)) (steps_known (length (listed c.terms)) (steps_of c)) k
+  all_steps = and_second (scripts_known (length (listed c.terms)) (lines_of c)) (steps_known (length (listed c.terms)) (steps_of c)) c.known

@@ -1,5 +1,7 @@
 -- The law on refusals, from what the rules' answers say.
 use Rattle.std.proofs.Common.{◌≡◌, ℕ, Bool, true, false, cond, eqb, ltb, ◌⊎◌, [], length, get_or, Ok, Err, Result, sym, refl, ap, ◌∙◌, subst, inl, inr, arith}
+use Rattle.std.specs.Prelude.{IsErrAnd}
+use Rattle.std.proofs.lemmas.Result.{err_from_is_err_and}
 use Rattle.deduction.specs.Term.{Term}
 use Rattle.rules.specs.Script.{find}
 use Rattle.rules.specs.Compose.{compose}
@@ -10,7 +12,7 @@ use Rattle.rules.specs.History.{History, Came, Stands, AnsweredRight, RefusedSte
 use Rattle.rules.specs.Theorems.{MissingTold}
 use Rattle.rules.proofs.Law.{answers_are_right_lem, missing_is_named}
 use Rattle.rules.proofs.Nth.{with_both}
-use Rattle.protocol.specs.declared.call.Answer.TheVariants.{Number, Said, Refused}
+use Rattle.protocol.specs.declared.call.Reply.TheVariants.{Number, Said}
 use Rattle.protocol.specs.declared.refusal.Refusal.{Refusal}
 use Rattle.protocol.specs.Laws.{StepRight, StepLaw, SaidRight, CanBuildLaw}
 use Rattle.protocol.specs.Outcome.{answer_of, number, said, Performed}
@@ -49,19 +51,19 @@ can_told st p n =
     with_both (nth st.scripts p) _ _ (CanTold p n) (λ e. inr refl) (λ s es.
     with_both (nth st.terms n) _ _ (CanTold p n) (λ e. inr refl) (λ t et. inl (_, refl)))
 
-number_ok : (r : Result ℕ Refusal) (l : ℕ) → number r ≡ Number l → r ≡ Ok l
+number_ok : (r : Result ℕ Refusal) (l : ℕ) → number r ≡ Ok (Number l) → r ≡ Ok l
 number_ok (Ok n) l e = cc
 number_ok (Err x) l e = let z : ◌≡◌ {A = ℕ} 0 1 = cc in absurd (omega arith)
 
-number_refused : (r : Result ℕ Refusal) (x : Refusal) → number r ≡ Refused x → r ≡ Err x
+number_refused : (r : Result ℕ Refusal) (x : Refusal) → number r ≡ Err x → r ≡ Err x
 number_refused (Ok n) x e = let z : ◌≡◌ {A = ℕ} 0 1 = cc in absurd (omega arith)
 number_refused (Err y) x e = cc
 
-said_ok : (r : Result Bool Refusal) (b : Bool) → said r ≡ Said b → r ≡ Ok b
+said_ok : (r : Result Bool Refusal) (b : Bool) → said r ≡ Ok (Said b) → r ≡ Ok b
 said_ok (Ok n) b e = cc
 said_ok (Err x) b e = let z : ◌≡◌ {A = ℕ} 0 1 = cc in absurd (omega arith)
 
-said_refused : (r : Result Bool Refusal) (x : Refusal) → said r ≡ Refused x → r ≡ Err x
+said_refused : (r : Result Bool Refusal) (x : Refusal) → said r ≡ Err x → r ≡ Err x
 said_refused (Ok n) x e = let z : ◌≡◌ {A = ℕ} 0 1 = cc in absurd (omega arith)
 said_refused (Err y) x e = cc
 
@@ -104,3 +106,9 @@ can_law st st' p n r w = record { right = λ past came t s. go past came t s (ca
     go past came t s (inr x) =
         let e = said_refused r (refusal_of rules.Unknown) (w.answer ∙ ap answer_of x) in
         subst (SaidRight past p t) (sym e) tt
+
+-- a refusal that is passed on
+pub refused_law : (st : State) (a b n : ℕ) (e : Refusal) (r : Result ℕ Refusal) → IsErrAnd r (λ x. x ≡ e) → Performed st (STEP a b n) (Err e) st → StepLaw st a n r
+refused_law st a b n e r h p =
+    let q = err_from_is_err_and r h in
+    step_law st st a b n r (subst (λ o. Performed st (STEP a b n) (number o) st) (sym (q.1 ∙ ap Err q.2)) p)

@@ -1,5 +1,5 @@
 -- Naming, as the rules have it.
-use Rattle.std.proofs.Common.{◌≡◌, ℕ, ◌+◌, ◌<◌, ◌≤◌, Bool, true, false, cond, ltb, List, [], ◌∷◌, ◌++◌, map, length, take, Some, Ok, Err, Result, sym, refl, ap, ◌∙◌, subst, ap₂, inl, inr, arith, length-append, ltb-false}
+use Rattle.std.proofs.Common.{◌≡◌, ℕ, ◌+◌, ◌<◌, ◌≤◌, Bool, true, false, cond, ltb, List, [], ◌∷◌, ◌++◌, map, length, Some, Ok, Err, Result, sym, refl, ap, ◌∙◌, subst, ap₂, inl, inr, arith, length-append, ltb-false}
 use mathlib.Core.Logic.{∥∥₁_elim}
 use mathlib.Core.HLevel.{⊥_prop}
 use lib.ListN.{length-map}
@@ -17,6 +17,12 @@ use Rattle.terms.specs.Tree.{tree, kind_of as kindTree}
 use Rattle.terms.specs.Listed.{listed, Inserted, Mated}
 use Rattle.terms.specs.Outcome.{Absent, Keeps, Inserts, MatesBy}
 use Rattle.terms.proofs.Trees.{tree_at, inside_lower}
+use Rattle.std.specs.Prelude.{OnOk, OnErr}
+use Rattle.bounded.specs.declared.list.BoundedVec.{BoundedVec}
+use Rattle.bounded.specs.declared.list.Full.{Full as NoPlace}
+use Rattle.bounded.specs.Items.{items}
+use Rattle.scripts.specs.declared.script.Script.{Script}
+use Rattle.scripts.specs.View.{written}
 use Rattle.scripts.specs.declared.instruction.Line.{Line}
 use Rattle.scripts.specs.Lines.{script_of}
 use Rattle.rules.specs.Script.{Script as RuleScript}
@@ -24,26 +30,29 @@ use Rattle.rules.specs.State.{State, NAME, NoRoom, EighthParty, named, refuses, 
 use Rattle.rules.specs.History.{History, Came}
 use Rattle.rules.proofs.Law.{came_stable}
 use Rattle.protocol.specs.declared.step.Step.{Step}
-use Rattle.protocol.specs.declared.content.Content.{Content}
+use Rattle.protocol.specs.declared.protocol.Protocol.{Protocol}
 use Rattle.protocol.specs.declared.refusal.Refusal.{Refusal}
 use Rattle.protocol.specs.declared.refusal.Refusal.TheVariants.{NoRoom as FULL, EighthParty as EIGHTH}
-use Rattle.protocol.specs.declared.call.Answer.TheVariants.{Number as NUMBER, Refused}
-use Rattle.protocol.specs.View.{trees, state_by, state_of, lines_of, steps_of, scripts_known, steps_known}
-use Rattle.protocol.specs.Outcome.{Performed, Sound, number, Unaltered}
-use Rattle.protocol.specs.Adding.{places, opens, admitted, new_nodes, party_lines, accepted, Opened}
+use Rattle.protocol.specs.declared.call.Reply.TheVariants.{Number as NUMBER}
+use Rattle.protocol.specs.States.{are_all_known, trees, state_by, scripts_known, steps_known}
+use Rattle.protocol.specs.View.{view_of, lines_of, steps_of}
+use Rattle.protocol.specs.Outcome.{Performed, number}
+use Rattle.protocol.specs.Adding.{places, opens, admitted, new_nodes, party_lines, accepted}
 use Rattle.protocol.proofs.Trees.{length_trees, nth_trees}
-use Rattle.protocol.proofs.Growing.{both, below_lines, scripts_later, steps_later, scripts_known_more, scripts_same, steps_same, trees_more, keeps_append, lines_length}
-use Rattle.protocol.proofs.Performing.{performed_by, scripts_known_lem, steps_known_lem, with_terms}
+use Rattle.protocol.proofs.Growing.{both, below_lines, scripts_later, steps_later, scripts_known_more, scripts_same, steps_same, trees_more, keeps_append}
+use Rattle.protocol.proofs.Performing.{performed_by}
+use Rattle.protocol.specs.Reached.{Reached}
+use Rattle.protocol.proofs.Known.{all_scripts, all_steps}
 use Rattle.protocol.proofs.Reaching.{reached_next}
 
 -- no name has the next number yet, since a name's identity is its number
-pub name_new : (c : Content) → Sound c → (k : Kind) → Absent (listed c.terms) (Name k (length (listed c.terms)))
-name_new c s k i l e = ∥∥₁_elim s.came ⊥_prop (λ w. go w.0 w.1)
+pub name_new : (c : Protocol) → (k : Kind) → Absent (listed c.terms) (Name k (length (listed c.terms)))
+name_new c k i l e = ∥∥₁_elim c.came ⊥_prop (λ w. go w.0 w.1)
   where
-    go : (past : History) → Came past (state_of c) → ⊥
+    go : (past : History) → Came past (view_of c) → ⊥
     go past came =
         let is = tree_at (listed c.terms) c.terms.lower i (Name k (length (listed c.terms))) l e in
-        let o = (came_stable past (state_of c) came).numbers.own i (kindTree k) (length (listed c.terms))
+        let o = (came_stable past (view_of c) came).numbers.own i (kindTree k) (length (listed c.terms))
         (nth_trees (listed c.terms) i l ∙ ap Some is) in
         omega arith
 
@@ -170,15 +179,15 @@ module _ (ts : List TermNode) (ps : List (List Line)) (ss : List Step) (code : �
       (ap₂ (λ (x y : ℕ). ltb 512 (x + y)) (length_trees ts) (terms_added k (length (trees ts))))
       (ap₂ (λ (x y : ℕ). ltb 8 (x + y)) (length-map ps (script_of (tree ts))) (scripts_added k (length (trees ts)))))
 
-  pub name_refused : (e : Refusal) → admitted (length ts) (length ps) k ≡ Err e → Performed st (NAME code) (Refused e) st
+  pub name_refused : (e : Refusal) → admitted (length ts) (length ps) k ≡ Err e → Performed st (NAME code) (Err e) st
   name_refused e q = go (ltb 512 (length ts + places k)) (ltb 8 (length ps + opens k)) tests q
     where
       go : (x y : Bool)
           → perform st (NAME code) ≡ cond x (refuses st (NAME code) NoRoom) (cond y (refuses st (NAME code) EighthParty) (names st (kindTree k)))
-          → ◌≡◌ {A = Result (Unit {0}) Refusal} (cond x (Err FULL) (cond y (Err EIGHTH) (Ok tt))) (Err e) → Performed st (NAME code) (Refused e) st
-      go true y p q = let f : e ≡ FULL = cc in performed_by st (NAME code) (refused (NAME code) NoRoom) st st (Refused e) p (ap Refused f) refl
+          → ◌≡◌ {A = Result (Unit {0}) Refusal} (cond x (Err FULL) (cond y (Err EIGHTH) (Ok tt))) (Err e) → Performed st (NAME code) (Err e) st
+      go true y p q = let f : e ≡ FULL = cc in performed_by st (NAME code) (refused (NAME code) NoRoom) st st (Err e) p (ap Err f) refl
       go false true p q =
-          let f : e ≡ EIGHTH = cc in performed_by st (NAME code) (refused (NAME code) EighthParty) st st (Refused e) p (ap Refused f) refl
+          let f : e ≡ EIGHTH = cc in performed_by st (NAME code) (refused (NAME code) EighthParty) st st (Err e) p (ap Err f) refl
       go false false p q = let z : ◌≡◌ {A = ℕ} 0 1 = cc in absurd (omega arith)
 
   pub name_room : admitted (length ts) (length ps) k ≡ Ok tt
@@ -279,109 +288,74 @@ some_place Public = omega arith
 some_place Table = omega arith
 some_place Function = omega arith
 
--- what a granted name leaves
-pub record NamedContent (c : Content) (k : Kind) (n : ℕ) (c' : Content) : Type 0 where
-  pub next : n ≡ length (listed c.terms)
-  pub nodes : listed c'.terms ≡ listed c.terms ++ new_nodes k n
-  pub lines : lines_of c' ≡ lines_of c ++ new_lines k n
-  pub agents : c'.agents ≡ c.agents + opens k
-  pub granted : c'.granted ≡ c.granted
-  pub steps : c'.steps ≡ c.steps
-  pub size : length c'.scripts ≡ length c.scripts
-
-module _ (c : Content) (s : Sound c) (code : ℕ) (k : Kind) (is : Some (kindTree k) ≡ kind_of code) where
+module _ (c : Protocol) (code : ℕ) (k : Kind) (is : Some (kindTree k) ≡ kind_of code) where
   abbrev ts : List TermNode
   ts = listed c.terms
 
-  agents_are : length (lines_of c) ≡ c.agents
-  agents_are = lines_length c (omega (arith, s.agents_few, s.scripts_size))
-
-  pub refused_name : (r : Result ℕ Refusal) (y e : Refusal) → r ≡ Err y → y ≡ e → Err e ≡ admitted (length ts) c.agents k
-      → Performed (state_of c) (NAME code) (number r) (state_of c)
+  pub refused_name : (r : Result ℕ Refusal) (y e : Refusal) → r ≡ Err y → y ≡ e → Err e ≡ admitted (length ts) (length (lines_of c)) k
+      → Performed (view_of c) (NAME code) (number r) (view_of c)
   refused_name r y e p same q =
-      subst (λ o. Performed (state_of c) (NAME code) (number o) (state_of c)) (sym (p ∙ ap Err same))
-      (name_refused ts (lines_of c) (steps_of c) code k (sym is) e (ap (λ m. admitted (length ts) m k) agents_are ∙ sym q))
+      subst (λ o. Performed (view_of c) (NAME code) (number o) (view_of c)) (sym (p ∙ ap Err same))
+      (name_refused ts (lines_of c) (steps_of c) code k (sym is) e (sym q))
 
-  pub room_for : Ok tt ≡ admitted (length ts) c.agents k
-      → (length ts + places k ≤ 512) × (c.agents + opens k ≤ 8) × (perform (state_of c) (NAME code) ≡ names (state_of c) (kindTree k))
-  room_for q =
-      let w = name_room ts (lines_of c) (steps_of c) code k (sym is) (ap (λ m. admitted (length ts) m k) agents_are ∙ sym q) in
-      (w.0, subst (λ m. m + opens k ≤ 8) agents_are w.1, w.2)
+  pub room_for : Ok tt ≡ admitted (length ts) (length (lines_of c)) k
+      → (length ts + places k ≤ 512) × (length (lines_of c) + opens k ≤ 8) × (perform (view_of c) (NAME code) ≡ names (view_of c) (kindTree k))
+  room_for q = name_room ts (lines_of c) (steps_of c) code k (sym is) (sym q)
 
-  module _ (n : ℕ) (c' : Content) (room : Ok tt ≡ admitted (length ts) c.agents k) (did : NamedContent c k n c') where
-    nodes_are : listed c'.terms ≡ ts ++ new_nodes k (length ts)
-    nodes_are = did.nodes ∙ ap (λ m. ts ++ new_nodes k m) did.next
+  -- the name is added, and its new lines
+  module _ (n : ℕ) (u : Terms 512) (ps : List (List Line)) (room : Ok tt ≡ admitted (length ts) (length (lines_of c)) k)
+      (next : n ≡ length ts) (nodes : listed u ≡ ts ++ new_nodes k n) (lines : ps ≡ lines_of c ++ new_lines k n) where
+    abbrev st' : State
+    st' = state_by (listed u) ps (steps_of c)
 
-    lines_are : lines_of c' ≡ lines_of c ++ new_lines k (length ts)
-    lines_are = did.lines ∙ ap (λ m. lines_of c ++ new_lines k m) did.next
+    nodes_are : listed u ≡ ts ++ new_nodes k (length ts)
+    nodes_are = nodes ∙ ap (λ m. ts ++ new_nodes k m) next
 
-    steps_are : steps_of c' ≡ steps_of c
-    steps_are = ap₂ (λ (m : ℕ) (ss : List Step). take m ss) did.granted did.steps
+    lines_are : ps ≡ lines_of c ++ new_lines k (length ts)
+    lines_are = lines ∙ ap (λ m. lines_of c ++ new_lines k m) next
 
-    state_is : state_of c' ≡ (names (state_of c) (kindTree k)).state
+    state_is : st' ≡ (names (view_of c) (kindTree k)).state
     state_is =
-        ap₂ (state_by (listed c'.terms)) lines_are steps_are
-        ∙ state_named ts (listed c'.terms) c.terms.lower c'.terms.lower k (lines_of c) (steps_of c) nodes_are (scripts_known_lem c s) (steps_known_lem c s)
+        ap (λ qs. state_by (listed u) qs (steps_of c)) lines_are
+        ∙ state_named ts (listed u) c.terms.lower u.lower k (lines_of c) (steps_of c) nodes_are (all_scripts c) (all_steps c)
 
-    pub named_performed : Performed (state_of c) (NAME code) (NUMBER n) (state_of c')
+    pub named_performed : Performed (view_of c) (NAME code) (Ok (NUMBER n)) st'
     named_performed =
-        performed_by (state_of c) (NAME code) (named (kindTree k) (length (trees ts))) (names (state_of c) (kindTree k)).state (state_of c') (NUMBER n)
-        (room_for room).2 (ap NUMBER (did.next ∙ sym (length_trees ts))) state_is
+        performed_by (view_of c) (NAME code) (named (kindTree k) (length (trees ts))) (names (view_of c) (kindTree k)).state st' (Ok (NUMBER n))
+        (room_for room).2 (ap (λ m. Ok (NUMBER m)) (next ∙ sym (length_trees ts))) state_is
 
-    longer : length (listed c'.terms) ≡ length ts + places k
+    longer : length (listed u) ≡ length ts + places k
     longer = ap length nodes_are ∙ (length-append ts (new_nodes k (length ts)) ∙ ap (λ m. length ts + m) (nodes_added k (length ts)))
 
-    pub named_sound : Sound c'
-    named_sound =
-        let m : ℕ = length (listed c'.terms) in
+    pub named_known : are_all_known (listed u) ps (steps_of c) ≡ true
+    named_known =
+        let m : ℕ = length (listed u) in
         let l = longer in
         let p = some_place k in
-        let few = (room_for room).1 in
-        record {
-          agents_few = omega (arith, did.agents);
-          steps_few = omega (arith, did.granted, s.steps_few);
-          scripts_size = did.size ∙ s.scripts_size;
-          steps_size = ap length did.steps ∙ s.steps_size;
-          known = both (scripts_known m (lines_of c')) (steps_known m (steps_of c'))
-              (ap (scripts_known m) lines_are
-              ∙ lines_named (length ts) m k (lines_of c) (omega arith) (scripts_later (length ts) m (omega arith) (lines_of c) (scripts_known_lem c s)))
-              (ap (steps_known m) steps_are ∙ steps_later (length ts) m (omega arith) (steps_of c) (steps_known_lem c s));
-          came = reached_next (state_of c) (state_of c') (NAME code) s.came named_performed.after;
-        }
+        both (scripts_known m ps) (steps_known m (steps_of c))
+        (ap (scripts_known m) lines_are
+        ∙ lines_named (length ts) m k (lines_of c) (omega arith) (scripts_later (length ts) m (omega arith) (lines_of c) (all_scripts c)))
+        (steps_later (length ts) m (omega arith) (steps_of c) (all_steps c))
 
--- the name is added, and no agent with it
-pub added_name : (c : Content) (k : Kind) (n : ℕ) (u : Terms 512) → (k ≡ Party → ⊥) → n ≡ length (listed c.terms)
-    → listed u ≡ listed c.terms ++ new_nodes k n → NamedContent c k n (with_terms c u)
-added_name c k n u other e nodes =
-    let w = opens_none k n other in
-    record {
-      next = e;
-      nodes = nodes;
-      lines = sym (append-nil (lines_of c)) ∙ ap (λ ls. lines_of c ++ ls) (sym w.0);
-      agents = (let z = w.1 in omega arith);
-      granted = refl;
-      steps = refl;
-      size = refl;
-    }
+    pub named_came : Reached st'
+    named_came = reached_next (view_of c) st' (NAME code) c.came named_performed.after
 
--- the name is added, and the next agent with it
-pub opened_agent : (c : Content) (k : Kind) (n : ℕ) (u : Terms 512) (ls : List Line) (c' : Content) → k ≡ Party → n ≡ length (listed c.terms)
-    → listed u ≡ listed c.terms ++ new_nodes k n → ls ≡ party_lines n → Opened (with_terms c u) ls c' → NamedContent c k n c'
-opened_agent c k n u ls c' is e nodes script did = record {
-  next = e;
-  nodes = ap listed did.terms ∙ nodes;
-  lines = did.lines ∙ (ap (λ xs. lines_of c ++ (xs ∷ [])) script ∙ ap (λ j. lines_of c ++ new_lines j n) (sym is));
-  agents = did.agents ∙ ap (λ j. c.agents + opens j) (sym is);
-  granted = did.granted;
-  steps = did.steps;
-  size = did.size;
-}
+-- no agent comes with another kind
+pub no_lines : (k : Kind) (n : ℕ) (ps : List (List Line)) → (k ≡ Party → ⊥) → ps ≡ ps ++ new_lines k n
+no_lines k n ps other = sym (append-nil ps) ∙ ap (λ ls. ps ++ ls) (sym (opens_none k n other).0)
 
--- what is as it was is unaltered
-pub same_unaltered : {A X : Type 0} (r : Result A Refusal) (x : X) → Unaltered r x x
-same_unaltered (Ok a) x = tt
-same_unaltered (Err e) x = refl
+-- the next agent with a party: its script is put behind the others, for which there is a place
+pushed : (xs xs' : List Script) (r : Result ℕ NoPlace) (x : Script) → OnOk r (xs' ≡ xs ++ (x ∷ [])) → OnErr r (length xs ≡ 8) → length xs < 8 → xs' ≡ xs ++ (x ∷ [])
+pushed xs xs' (Ok n) x ok full few = ok
+pushed xs xs' (Err e) x ok full few = absurd (omega (arith, full))
 
--- an accepted answer is no refusal
-pub no_refusal : (m : ℕ) (e : Refusal) (p : Result ℕ TermError) → p ≡ Ok m → Err e ≡ accepted p → ⊥
-no_refusal m e p is told = let z : ◌≡◌ {A = ℕ} 0 1 = cc in omega arith
+pub agent_lines : (c : Protocol) (code : ℕ) (k : Kind) (is : Some (kindTree k) ≡ kind_of code) (n : ℕ) → Ok tt ≡ admitted (length (listed c.terms)) (length (lines_of c)) k → k ≡ Party
+    → (x : Script) → written x ≡ party_lines n → (r : Result ℕ NoPlace) (v : BoundedVec Script 8) → OnOk r (items v ≡ items c.scripts ++ (x ∷ [])) → OnErr r (length (items c.scripts) ≡ 8)
+    → map written (items v) ≡ lines_of c ++ new_lines k n
+agent_lines c code k is n room same x lines r v ok full =
+    let o : opens k ≡ 1 = ap opens same in
+    let few : length (items c.scripts) < 8 = omega (arith, (room_for c code k is room).1, o, length-map (items c.scripts) written) in
+    ap (map written) (pushed (items c.scripts) (items v) r x ok full few)
+    ∙ map_push written (items c.scripts) x
+    ∙ ap (λ xs. lines_of c ++ (xs ∷ [])) lines
+    ∙ ap (λ j. lines_of c ++ new_lines j n) (sym same)

@@ -11,7 +11,7 @@ use Rattle.terms.specs.Tree.{tree, tree_of, Orderly}
 use Rattle.terms.proofs.Trees.{tree_is}
 use Rattle.rules.specs.State.{nth, party_names}
 use Rattle.protocol.specs.Reading.{is_party_node, is_party}
-use Rattle.protocol.specs.View.{trees_from, trees}
+use Rattle.protocol.specs.States.{trees_from, trees}
 
 here : (r : TermNode) (T : ℕ → Term) (us : List Term) → is_party_node r ≡ true → party_names (tree_of r T ∷ us) ≡ tree_of r T ∷ party_names us
 here (Name Party i) T us e = refl

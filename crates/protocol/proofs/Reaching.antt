@@ -1,18 +1,16 @@
 -- States that came about by calls, and what holds of them.
-use Rattle.std.proofs.Common.{◌≡◌, [], ◌∷◌, sym, refl, arith}
+use Rattle.std.proofs.Common.{◌≡◌, true, List, [], ◌∷◌, sym, refl}
 use mathlib.Core.Logic.{∥∥₁_elim, ∥∥₁_prop}
+use Rattle.terms.specs.declared.node.TermNode.{TermNode}
+use Rattle.scripts.specs.declared.instruction.Line.{Line}
+use Rattle.protocol.specs.declared.step.Step.{Step}
 use Rattle.rules.specs.State.{State, Call, blank, perform}
-use Rattle.protocol.specs.declared.content.Content.{Content}
-use Rattle.protocol.specs.View.{trees, state_by, state_of, Blank}
-use Rattle.protocol.specs.Outcome.{Sound}
+use Rattle.protocol.specs.States.{are_all_known, trees, state_by}
 use Rattle.protocol.specs.Reached.{Reached}
 
-blank_state : state_by [] ([] ∷ []) [] ≡ blank
+pub blank_state : state_by [] ([] ∷ []) [] ≡ blank
 unfolding trees
 blank_state = refl
-
-pub blank_view : (c : Content) → Blank c → state_of c ≡ blank
-blank_view c b = simp (b.no_terms, b.listener, b.no_steps) blank_state
 
 pub blank_reached : (st : State) → st ≡ blank → Reached st
 blank_reached st e = ∣ ([], e) ∣₁
@@ -21,12 +19,9 @@ blank_reached st e = ∣ ([], e) ∣₁
 pub reached_next : (st st' : State) (c : Call) → Reached st → st' ≡ (perform st c).state → Reached st'
 reached_next st st' c r e = ∥∥₁_elim r ∥∥₁_prop (λ w. ∣ ((perform st c).told ∷ w.0, (st, w.1, (c, refl, sym e))) ∣₁)
 
-pub blank_sound : (c : Content) → Blank c → Sound c
-blank_sound c b = record {
-  agents_few = omega (arith, b.one_agent);
-  steps_few = omega (arith, b.none_granted);
-  scripts_size = b.scripts_size;
-  steps_size = b.steps_size;
-  known = simp (b.no_terms, b.listener, b.no_steps) refl;
-  came = blank_reached (state_of c) (blank_view c b);
-}
+module _ (ts : List TermNode) (ps : List (List Line)) (ss : List Step) (no_terms : ts ≡ []) (listener : ps ≡ [] ∷ []) (no_steps : ss ≡ []) where
+  pub blank_parts : state_by ts ps ss ≡ blank
+  blank_parts = simp (no_terms, listener, no_steps) blank_state
+
+  pub blank_known : are_all_known ts ps ss ≡ true
+  blank_known = simp (no_terms, listener, no_steps) refl

@@ -6,7 +6,7 @@ use Rattle.terms.specs.Tree.{tree, Orderly}
 use Rattle.terms.proofs.Trees.{numbers_apart}
 use Rattle.rules.specs.State.{nth, place_of}
 use Rattle.rules.proofs.Nth.{nth_in, nth_below, in_nth, place_is, place_none, some_is}
-use Rattle.protocol.specs.View.{trees_from, trees}
+use Rattle.protocol.specs.States.{trees_from, trees}
 
 length_from : (ts : List TermNode) (n k : ℕ) → length (trees_from ts n k) ≡ k
 length_from ts n zero = refl

@@ -6,8 +6,6 @@ use Rattle.terms.specs.declared.node.Kind.TheVariants.{Party, Number, Shared, Pu
 use Rattle.terms.specs.declared.node.Form.{Form}
 use Rattle.terms.specs.declared.node.TermNode.{TermNode}
 use Rattle.terms.specs.declared.node.TermNode.TheVariants.{Name, Mate}
-use Rattle.terms.specs.declared.node.TermError.{TermError}
-use Rattle.terms.specs.declared.node.TermError.TheVariants.{Unknown as NoTerm, WrongKind as WrongPart, Full}
 use Rattle.terms.specs.declared.table.Terms.{Terms}
 use Rattle.terms.specs.Tree.{kind_of, form_of}
 use Rattle.terms.specs.Listed.{listed}
@@ -15,11 +13,12 @@ use Rattle.scripts.specs.declared.instruction.Line.{Line}
 use Rattle.scripts.specs.declared.instruction.Instruction.TheVariants.{Given}
 use Rattle.rules.specs.State.{Call as RuleCall}
 use Rattle.protocol.specs.declared.refusal.Refusal.{Refusal}
-use Rattle.protocol.specs.declared.refusal.Refusal.TheVariants.{Unknown, WrongKind, NoRoom, EighthParty}
+use Rattle.protocol.specs.declared.refusal.Refusal.TheVariants.{NoRoom, EighthParty}
 use Rattle.protocol.specs.declared.step.Step.{Step}
-use Rattle.protocol.specs.declared.content.Content.{Content}
-use Rattle.protocol.specs.View.{state_by, scripts_known, steps_known, lines_of}
+use Rattle.protocol.specs.States.{state_by, scripts_known, steps_known}
 use Rattle.protocol.specs.Outcome.{Performed, Unaltered, number}
+use Rattle.protocol.specs.Refusals.{refused_as}
+use Rattle.terms.specs.declared.node.TermError.{TermError}
 
 -- a kind or form as the rules have it
 abbrev pub tree_kind : Option Kind → Option TreeKind
@@ -30,12 +29,7 @@ abbrev pub tree_form : Option Form → Option TreeForm
 tree_form None = None
 tree_form (Some f) = Some (form_of f)
 
--- why the protocol refuses a term that its table refuses
-abbrev pub refused_as : TermError → Refusal
-refused_as NoTerm = Unknown
-refused_as WrongPart = WrongKind
-refused_as Full = NoRoom
-
+-- the number that the table answers, or the refusal
 abbrev pub accepted : Result ℕ TermError → Result ℕ Refusal
 accepted (Ok n) = Ok n
 accepted (Err e) = Err (refused_as e)
@@ -86,12 +80,3 @@ Named ts k (Err e) us = ⊥
 -- the script of a new party: it holds the party's own name
 abbrev pub party_lines : ℕ → List Line
 party_lines n = record { op = Given n; holds = Some n } ∷ []
-
--- one agent more, with this script
-pub record Opened (c : Content) (ls : List Line) (c' : Content) : Type 0 where
-  pub terms : c'.terms ≡ c.terms
-  pub lines : lines_of c' ≡ lines_of c ++ (ls ∷ [])
-  pub size : length c'.scripts ≡ length c.scripts
-  pub agents : c'.agents ≡ c.agents + 1
-  pub steps : c'.steps ≡ c.steps
-  pub granted : c'.granted ≡ c.granted

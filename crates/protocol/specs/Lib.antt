@@ -1,11 +1,11 @@
 pub mod Refusals
+pub mod States
 pub mod View
 pub mod Reached
 pub mod Outcome
 pub mod Reading
 pub mod Stepping
 pub mod Delivering
-pub mod Whole
 pub mod Adding
 pub mod Knowing
 pub mod Laws

@@ -14,7 +14,7 @@ use Rattle.scripts.specs.View.{written}
 use Rattle.rules.specs.State.{nth, party_names, name_at}
 use Rattle.parts.specs.Opening.{built_before}
 use Rattle.protocol.specs.declared.step.Step.{Step}
-use Rattle.protocol.specs.View.{trees}
+use Rattle.protocol.specs.States.{trees}
 
 -- the script at a place; none exactly past the last agent
 abbrev pub ShowsScript : List (List Line) → ℕ → Option (Bor Script) → Type 0

@@ -2,6 +2,8 @@
 use Rattle.std.specs.Prelude.{ℕ, Some, None, Option}
 use Rattle.rules.specs.State.{Refusal as RuleRefusal}
 use Rattle.rules.specs.State as rules
+use Rattle.terms.specs.declared.node.TermError.{TermError}
+use Rattle.terms.specs.declared.node.TermError.TheVariants.{Unknown as NoTerm, WrongKind as WrongPart, Full}
 use Rattle.protocol.specs.declared.refusal.Refusal.{Refusal}
 use Rattle.protocol.specs.declared.refusal.Refusal.TheVariants.{Unknown, WrongKind, NoRoom, EighthParty, TooLate, NoTwoParties, LastStep, NoAddress, Unmakeable, ScriptFull}
 
@@ -43,3 +45,9 @@ refusal_of rules.LastStep = LastStep
 refusal_of rules.NoAddress = NoAddress
 refusal_of (rules.Unmakeable t) = Unmakeable t
 refusal_of (rules.ScriptFull p) = ScriptFull p
+
+-- why the protocol refuses a term that its table refuses
+abbrev pub refused_as : TermError → Refusal
+refused_as NoTerm = Unknown
+refused_as WrongPart = WrongKind
+refused_as Full = NoRoom

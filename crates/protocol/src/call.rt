@@ -17,11 +17,12 @@ pub enum Call {
     CanBuild(Agent, TermId),
 }
 
-// The number of a term or of a step, granted knowledge, yes or no, or a refusal.
+// What a granted call answers: the number of a term or of a step, nothing more, or yes or no.
 #[derive(Clone, Copy, PartialEq, Eq, Debug)]
-pub enum Answer {
+pub enum Reply {
     Number(usize),
     Done,
     Said(bool),
-    Refused(Refusal),
 }
+
+pub type Answer = Result<Reply, Refusal>;

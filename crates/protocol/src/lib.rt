@@ -7,12 +7,11 @@
 #![tactic(auto)]
 
 mod call;
-mod content;
 mod protocol;
 mod refusal;
 mod step;
 
-pub use call::{Answer, Call};
+pub use call::{Answer, Call, Reply};
 pub use protocol::Protocol;
 pub use refusal::Refusal;
 pub use step::{Agent, LISTENER, Step};

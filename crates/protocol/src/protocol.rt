@@ -1,24 +1,36 @@
 // The protocol itself; the calls stand in the modules below it.
-ghost use Rattle.std.specs.Prelude.{◌≡◌, ◌≤◌, true, length};
-ghost use Rattle.protocol.specs.View.{are_all_known, state_of};
+ghost use Rattle.std.specs.Prelude.{◌≡◌, true, map};
+ghost use Rattle.bounded.specs.Items.{items};
+ghost use Rattle.scripts.specs.View.{written};
+ghost use Rattle.terms.specs.Listed.{listed};
+ghost use Rattle.protocol.specs.States.{are_all_known, state_by};
 ghost use Rattle.protocol.specs.Reached.{Reached};
 
-use crate::content::Content;
+use crate::step::Step;
+use bounded::BoundedVec;
+use scripts::Script;
+use terms::Terms;
 
+mod addressing;
+mod asking;
+mod begins;
+mod building;
 mod calling;
 mod calls;
-mod exchange;
+mod delivering;
+mod knowing;
+mod names;
 mod naming;
 mod read;
+mod shown;
+mod stepping;
 
-// Whatever it holds came about from blank by calls.
+// The terms, the scripts by agent, and the granted steps. Whatever it holds came about from blank by calls.
 #[derive(Clone, Copy)]
 pub struct Protocol {
-    content: Content,
-    ghost agents_few: { content.agents ≤ 8 },
-    ghost steps_few: { content.granted ≤ 64 },
-    ghost scripts_size: { length content.scripts ≡ 8 },
-    ghost steps_size: { length content.steps ≡ 64 },
-    ghost known: { are_all_known content ≡ true },
-    ghost came: { Reached (state_of content) },
+    terms: Terms<512>,
+    scripts: BoundedVec<Script, 8>,
+    steps: BoundedVec<Step, 64>,
+    ghost known: { are_all_known (listed terms) (map written (items scripts)) (items steps) ≡ true },
+    ghost came: { Reached (state_by (listed terms) (map written (items scripts)) (items steps)) },
 }

@@ -1,9 +1,9 @@
 // Why a call on a protocol is refused.
 ghost use Rattle.std.specs.Prelude.{◌≡◌};
-ghost use Rattle.protocol.specs.Refusals.{number_of, value_of};
+ghost use Rattle.protocol.specs.Refusals.{number_of, refused_as, value_of};
 
 use crate::step::Agent;
-use terms::TermId;
+use terms::{TermError, TermId};
 
 // In the order in which they are tested. Unmakeable has the missing term, ScriptFull the agent.
 #[derive(Clone, Copy, PartialEq, Eq, Debug)]
@@ -53,14 +53,27 @@ impl Refusal {
         match self {
             Refusal::Unmakeable(term) => Some(term),
             Refusal::ScriptFull(agent) => Some(agent),
-            Refusal::Unknown => None,
-            Refusal::WrongKind => None,
-            Refusal::NoRoom => None,
-            Refusal::EighthParty => None,
-            Refusal::TooLate => None,
-            Refusal::NoTwoParties => None,
-            Refusal::LastStep => None,
-            Refusal::NoAddress => None,
+            Refusal::Unknown
+            | Refusal::WrongKind
+            | Refusal::NoRoom
+            | Refusal::EighthParty
+            | Refusal::TooLate
+            | Refusal::NoTwoParties
+            | Refusal::LastStep
+            | Refusal::NoAddress => None,
+        }
+    }
+}
+
+// Why a protocol refuses a term that its table refuses.
+impl From<TermError> for Refusal {
+    ghost from_gives = { λ e r. r ≡ refused_as e };
+
+    fn from(error: TermError) -> Refusal {
+        match error {
+            TermError::Unknown => Refusal::Unknown,
+            TermError::WrongKind => Refusal::WrongKind,
+            TermError::Full => Refusal::NoRoom,
         }
     }
 }

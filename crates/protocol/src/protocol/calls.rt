@@ -2,7 +2,7 @@
 ghost use Rattle.rules.specs.State.{BUILD, CAN, KNOW, NAME, STEP};
 ghost use Rattle.protocol.specs.Laws.{CanBuildLaw, StepLaw};
 ghost use Rattle.protocol.specs.Outcome.{Performed, Unaltered, done, number, said};
-ghost use Rattle.protocol.specs.Whole.{view_of};
+ghost use Rattle.protocol.specs.View.{view_of};
 
 use crate::protocol::Protocol;
 use crate::refusal::Refusal;

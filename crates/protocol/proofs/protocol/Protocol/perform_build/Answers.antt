@@ -1,21 +1,11 @@
-use Rattle.protocol.proofs.Holding.{sound}
-use Rattle.protocol.proofs.Equal.{unaltered_by}
+use Rattle.rules.specs.State.{BUILD}
+use Rattle.protocol.proofs.Performing.{adds_known, adds_came}
 use Rattle.protocol.proofs.protocol.Protocol.perform_build.Goals as goal
-
-pub build-requires : goal.build-requires
-build-requires c = sound c.args.self.now
 
 pub invariant_of-self : goal.invariant_of-self
 invariant_of-self c =
-    let s = c.build.ensures.sound in
+    let call = BUILD c.args.form c.args.a c.args.b in
     record {
-      agents_few = s.agents_few;
-      steps_few = s.steps_few;
-      scripts_size = s.scripts_size;
-      steps_size = s.steps_size;
-      known = s.known;
-      came = s.came;
+      known = adds_known c.args.self.now call c.build_term.result c.build_term.new.terms c.build_term.ensures;
+      came = adds_came c.args.self.now call c.build_term.result c.build_term.new.terms c.build_term.ensures;
     }
-
-pub returns : goal.returns
-returns c = record { performed = c.build.ensures.performed; unaltered = unaltered_by c.build.result c.args.self.now _ c.build.ensures.unaltered }

@@ -1,21 +1,14 @@
-use Rattle.protocol.proofs.Holding.{sound}
-use Rattle.protocol.proofs.Equal.{unaltered_by}
+use Rattle.protocol.proofs.Knowing.{know_performed, know_known, know_came}
 use Rattle.protocol.proofs.protocol.Protocol.perform_knowledge.Goals as goal
-
-pub know-requires : goal.know-requires
-know-requires c = sound c.args.self.now
 
 pub invariant_of-self : goal.invariant_of-self
 invariant_of-self c =
-    let s = c.know.ensures.sound in
+    let p = c.args.self.now in
+    let w = c.in_ok-script.ensures in
     record {
-      agents_few = s.agents_few;
-      steps_few = s.steps_few;
-      scripts_size = s.scripts_size;
-      steps_size = s.steps_size;
-      known = s.known;
-      came = s.came;
+      known = know_known p c.args.agent c.args.term c.in_ok-script.script w _ c.replace.ensures.now;
+      came = know_came p c.args.agent c.args.term c.in_ok-script.script w _ c.replace.ensures.now;
     }
 
-pub returns : goal.returns
-returns c = record { performed = c.know.ensures.performed; unaltered = unaltered_by c.know.result c.args.self.now _ c.know.ensures.unaltered }
+pub returns-clause-performed : goal.returns-clause-performed
+returns-clause-performed c = know_performed c.args.self.now c.args.agent c.args.term c.in_ok-script.script c.in_ok-script.ensures _ c.replace.ensures.now
