@@ -16,13 +16,7 @@ const MATE: usize = 4;
 fn form_of(form: usize) -> Option<Form>
     ensures { tree_form result ≡ form_of form }
 {
-    match form {
-        0 => Some(Form::Pair),
-        1 => Some(Form::Sealed),
-        2 => Some(Form::Digest),
-        3 => Some(Form::Entry),
-        _ => None,
-    }
+    Form::try_from(form).ok()
 }
 
 // A term with two parts.

@@ -18,15 +18,7 @@ use terms::{Kind, TermId, Terms};
 fn kind_of(kind: usize) -> Option<Kind>
     ensures { tree_kind result ≡ kind_of kind }
 {
-    match kind {
-        0 => Some(Kind::Party),
-        1 => Some(Kind::Number),
-        2 => Some(Kind::Shared),
-        3 => Some(Kind::Public),
-        4 => Some(Kind::Table),
-        5 => Some(Kind::Function),
-        _ => None,
-    }
+    Kind::try_from(kind).ok()
 }
 
 // How many terms a name of the kind adds.
