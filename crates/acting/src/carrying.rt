@@ -8,6 +8,7 @@ use crate::halt::Halt;
 use crate::instruction::{Part, act, comparisons};
 use provider::{Handle, Provider};
 use scripts::Script;
+use std::ops::Range;
 
 // The loop over the instructions.
 fn carry<P: Provider>(
@@ -16,45 +17,40 @@ fn carry<P: Provider>(
     slots: &mut [Handle],
     base: usize,
     script: &Script,
-    start: usize,
-    end: usize,
+    range: Range<usize>,
     part: Part,
 ) -> Result<usize, Halt>
-    ensures { CarriedOut P.algebra P.meaning readings.now part base (written script.now) start end provider.old slots.old result provider.new slots.new }
+    ensures { CarriedOut P.algebra P.meaning readings.now part base (written script.now) range.start range.end provider.old slots.old result provider.new slots.new }
 {
     let mut sames = 0;
     let room = slots.len().saturating_sub(base);
-    for at in start..end.min(room) {
+    for at in range.start..range.end.min(room) {
         let Some(line) = script.line(at) else {
             return Ok(sames);
         };
-        match act(provider, readings, slots, base, line.op, part) {
-            Ok(handle) => {
-                slots[base + at] = handle;
-                sames += comparisons(line.op);
-            }
-            Err(error) => return Err(Halt { at, error }),
-        }
+        slots[base + at] = act(provider, readings, slots, base, line.op, part).map_err(
+            |error| Halt { at, error },
+        )?;
+        sames += comparisons(line.op);
     }
     Ok(sames)
 }
 
-// Carries out the instructions of a script from start up to end, on the slots from base on, and answers how many comparisons were
-// done. It ends early where the script or the slots end.
+// Carries out the instructions of a script in a range, on the slots from base on, and answers how many comparisons were done. It ends
+// early where the script or the slots end.
 pub fn carry_out<P: Provider>(
     provider: &mut P,
     readings: &[Handle],
     slots: &mut [Handle],
     base: usize,
     script: &Script,
-    start: usize,
-    end: usize,
+    range: Range<usize>,
     part: Part,
 ) -> Result<usize, Halt>
-    ensures whole { CarriedOut P.algebra P.meaning readings.now part base (written script.now) start end provider.old slots.old result provider.new slots.new }
-    ensures keeps { KeptOutside P.meaning (base + start) (base + end) provider.old slots.old provider.new slots.new }
-    ensures bounds { Bounded start end result }
-    ensures stands { PartStands P.algebra P.meaning readings.now part base (written script.now) start end provider.old slots.old result provider.new slots.new }
+    ensures whole { CarriedOut P.algebra P.meaning readings.now part base (written script.now) range.start range.end provider.old slots.old result provider.new slots.new }
+    ensures keeps { KeptOutside P.meaning (base + range.start) (base + range.end) provider.old slots.old provider.new slots.new }
+    ensures bounds { Bounded range.start range.end result }
+    ensures stands { PartStands P.algebra P.meaning readings.now part base (written script.now) range.start range.end provider.old slots.old result provider.new slots.new }
 {
-    carry(provider, readings, slots, base, script, start, end, part)
+    carry(provider, readings, slots, base, script, range, part)
 }

@@ -19,22 +19,14 @@ pub enum Part {
 pub(crate) fn reading(readings: &[Handle], term: TermId) -> Handle
     ensures { result ≡ slice_index readings.now term }
 {
-    if term < readings.len() {
-        readings[term]
-    } else {
-        0
-    }
+    readings.get(term).copied().unwrap_or(0)
 }
 
 // The handle in a slot of the session whose slots begin at base; 0 past the end.
 fn held(slots: &[Handle], base: usize, slot: Slot) -> Handle
     ensures { result ≡ slice_index slots.now (base + slot) }
 {
-    if base <= slots.len() && slot < slots.len() - base {
-        slots[base + slot]
-    } else {
-        0
-    }
+    slots.get(base..).map_or(0, |own| reading(own, slot))
 }
 
 // Carries out one instruction, and answers the handle that goes into its slot.
@@ -85,8 +77,5 @@ pub(crate) fn act<P: Provider>(
 pub(crate) fn comparisons(op: Instruction) -> usize
     ensures { (result ≡ tally op) × (result ≤ 1) }
 {
-    match op {
-        Instruction::Same(_, _) => 1,
-        _ => 0,
-    }
+    usize::from(matches!(op, Instruction::Same(_, _)))
 }

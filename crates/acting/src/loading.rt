@@ -64,10 +64,10 @@ fn load_terms<P: Provider>(
         let Some(node) = terms.get(term) else {
             return Ok(term);
         };
-        match make(provider, readings, term, node) {
-            Ok(handle) => readings[term] = handle,
-            Err(error) => return Err(Halt { at: term, error }),
-        }
+        readings[term] = make(provider, readings, term, node).map_err(|error| Halt {
+            at: term,
+            error,
+        })?;
     }
     Ok(readings.len())
 }

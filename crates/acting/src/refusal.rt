@@ -36,18 +36,17 @@ impl SessionRefusal {
         ensures { result ≡ value_of self }
     {
         match self {
-            SessionRefusal::ProviderFull(at) => Some(at),
-            SessionRefusal::ProviderWrong(at) => Some(at),
-            SessionRefusal::NoParty => None,
-            SessionRefusal::NotItsTurn => None,
-            SessionRefusal::NoMemory => None,
+            SessionRefusal::ProviderFull(at) | SessionRefusal::ProviderWrong(at) => Some(at),
+            SessionRefusal::NoParty | SessionRefusal::NotItsTurn | SessionRefusal::NoMemory => None,
         }
     }
+}
 
-    // The refusal of what was stopped there.
-    pub fn stopped(halt: Halt) -> SessionRefusal
-        ensures { result ≡ halt_refusal halt }
-    {
+// The refusal of what a provider stopped.
+impl From<Halt> for SessionRefusal {
+    ghost from_gives = { λ halt refusal. refusal ≡ halt_refusal halt };
+
+    fn from(halt: Halt) -> SessionRefusal {
         match halt.error {
             ProviderError::Full => SessionRefusal::ProviderFull(halt.at),
             ProviderError::Wrong => SessionRefusal::ProviderWrong(halt.at),

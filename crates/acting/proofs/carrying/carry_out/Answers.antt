@@ -14,7 +14,7 @@ returns g c =
     let few : length ls ≤ 512 = omega (arith, length-take a.script.now.len a.script.now.lines, a.script.now.few) in
     record {
       whole = c.carry.ensures;
-      keeps = part_keeps p.algebra p.meaning a.readings.now a.part a.base ls a.start a.end a.provider.now a.slots.now c.carry.result c.carry.new.provider c.carry.new.slots c.carry.ensures;
-      bounds = part_bounded p.algebra p.meaning a.readings.now a.part a.base ls a.start a.end a.provider.now a.slots.now c.carry.result c.carry.new.provider c.carry.new.slots c.carry.ensures few;
-      stands = part_stands law p.meaning q.holds a.readings.now a.part a.base ls a.start a.end a.provider.now a.slots.now c.carry.result c.carry.new.provider c.carry.new.slots c.carry.ensures;
+      keeps = part_keeps p.algebra p.meaning a.readings.now a.part a.base ls a.range.start a.range.end a.provider.now a.slots.now c.carry.result c.carry.new.provider c.carry.new.slots c.carry.ensures;
+      bounds = part_bounded p.algebra p.meaning a.readings.now a.part a.base ls a.range.start a.range.end a.provider.now a.slots.now c.carry.result c.carry.new.provider c.carry.new.slots c.carry.ensures few;
+      stands = part_stands law p.meaning q.holds a.readings.now a.part a.base ls a.range.start a.range.end a.provider.now a.slots.now c.carry.result c.carry.new.provider c.carry.new.slots c.carry.ensures;
     }
