@@ -28,9 +28,8 @@ fn carry<P: Provider>(
         let Some(line) = script.line(at) else {
             return Ok(sames);
         };
-        slots[base + at] = act(provider, readings, slots, base, line.op, part).map_err(
-            |error| Halt { at, error },
-        )?;
+        let done = act(provider, readings, slots, base, line.op, part);
+        slots[base + at] = done.map_err(|error| Halt { at, error })?;
         sames += comparisons(line.op);
     }
     Ok(sames)

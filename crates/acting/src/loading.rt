@@ -64,10 +64,8 @@ fn load_terms<P: Provider>(
         let Some(node) = terms.get(term) else {
             return Ok(term);
         };
-        readings[term] = make(provider, readings, term, node).map_err(|error| Halt {
-            at: term,
-            error,
-        })?;
+        let made = make(provider, readings, term, node);
+        readings[term] = made.map_err(|error| Halt { at: term, error })?;
     }
     Ok(readings.len())
 }

@@ -1,3 +1,2 @@
-pub mod Next
+pub mod Searching
 pub mod Lowest
-pub mod Readiness

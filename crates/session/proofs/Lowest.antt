@@ -1,7 +1,7 @@
 -- A party's next step is the one of the lowest number.
-use Rattle.std.proofs.Common.{◌≡◌, ℕ, zero, suc, ◌+◌, ◌-◌, ◌<◌, ◌≤◌, Bool, true, false, cond, ltb, ◌⊎◌, List, [], ◌∷◌, drop, Some, None, Option, sym, refl, ap, ◌∙◌, subst, inl, inr, arith, ltb-false, ltb-true}
+use Rattle.std.proofs.Common.{◌≡◌, ℕ, zero, suc, ◌+◌, ◌-◌, ◌<◌, ◌≤◌, Bool, true, false, cond, ltb, ◌⊎◌, List, [], ◌∷◌, drop, Some, None, Option, MatchOption, length, sym, refl, ap, ◌∙◌, subst, inl, inr, arith, ltb-false, ltb-true}
 use Rattle.rules.specs.State.{nth}
-use Rattle.rules.proofs.Nth.{some_is}
+use Rattle.rules.proofs.Nth.{some_is, nth_below}
 use Rattle.acting.proofs.Lines.{nth_drop}
 use Rattle.protocol.specs.declared.step.Step.{Step}
 use Rattle.session.specs.Turns.{takes_part, first_of, next_of, IsNext, Next}
@@ -37,6 +37,9 @@ compare_of a b = go (ltb a b) (ltb b a) refl refl
     go false true e f = inr (inr (ltb-true b a f))
     go false false e f = inr (inl (omega (arith, ltb-false a b e, ltb-false b a f)))
 
+both : (b : Bool) → b ≡ true → b ≡ false → ⊥
+both b t f = cc
+
 module _ (xs : List Step) (n p : ℕ) where
   in_drop : (j : ℕ) (y : Step) → n ≤ j → nth xs j ≡ Some y → nth (drop n xs) (j - n) ≡ Some y
   in_drop j y l e = let q : n + (j - n) ≡ j = omega arith in nth_drop xs n (j - n) ∙ ap (nth xs) q ∙ e
@@ -59,9 +62,6 @@ module _ (xs : List Step) (n p : ℕ) where
   pub next_at : (k : ℕ) (x : Step) → IsNext xs n p k x → next_of xs n p ≡ Some (k, x)
   next_at k x w = go (next_of xs n p) refl
     where
-      both : (b : Bool) → b ≡ true → b ≡ false → ⊥
-      both b t f = let z : ◌≡◌ {A = ℕ} 0 1 = cc in omega arith
-
       same : (k' : ℕ) (x' : Step) → IsNext xs n p k' x' → k' ≡ k
       same k' x' v = by_order (compare_of k' k)
         where
@@ -77,3 +77,25 @@ module _ (xs : List Step) (n p : ℕ) where
           let q : y.0 ≡ k = same y.0 y.1 v in
           let t : y.1 ≡ x = some_is (sym v.there ∙ ap (nth xs) q ∙ w.there) in
           sym e ∙ ap (λ u. Some (u, y.1)) q ∙ ap (λ u. Some (k, u)) t
+
+  -- what is the next step is found, and none where none is left
+  pub next_only : (o : Option (ℕ × Step)) → Next xs n p o → o ≡ next_of xs n p
+  next_only None w = by (next_of xs n p) refl
+    where
+      by : (o : Option (ℕ × Step)) → o ≡ next_of xs n p → None ≡ o
+      by None e = refl
+      by (Some y) e = let v = next_is (Some y) e in absurd (both (takes_part y.1 p) v.part (w y.0 y.1 v.later v.there))
+  next_only (Some y) w = sym (next_at y.0 y.1 w)
+
+  -- what a search from n on finds
+  pub next_found : (end : ℕ) → end ≡ length xs → (o : Option (ℕ × Step))
+      → MatchOption o ((k : ℕ) → n ≤ k → k < end → (x : Step) → nth xs k ≡ Some x → takes_part x p ≡ false)
+      (λ y. (k : ℕ) × (n ≤ k) × ((y.0 ≡ k) × (nth xs k ≡ Some y.1) × (takes_part y.1 p ≡ true)) × ((j : ℕ) → n ≤ j → j < k → (x : Step) → nth xs j ≡ Some x → takes_part x p ≡ false))
+      → Next xs n p o
+  next_found end e None w = λ j y l q. w j l (omega (arith, nth_below xs j y q)) y q
+  next_found end e (Some y) (k, l, (q, there, part), lowest) = record {
+    later = omega arith;
+    there = ap (nth xs) q ∙ there;
+    part = part;
+    lowest = λ j z u v h. lowest j u (omega arith) z h;
+  }

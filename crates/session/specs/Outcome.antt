@@ -13,7 +13,6 @@ use Rattle.acting.specs.Loading.{Loads}
 use Rattle.acting.specs.Carrying.{CarriedOut}
 use Rattle.protocol.specs.declared.protocol.Protocol.{Protocol}
 use Rattle.session.specs.declared.session.Session.{Session}
-use Rattle.session.specs.declared.turn.Turn.TheVariants.{From}
 use Rattle.session.specs.declared.work.Work.{Work}
 use Rattle.session.specs.Sent.{sent_by}
 use Rattle.session.specs.Plans.{lines_in, unready, start_work, send_work, receive_work}
@@ -34,7 +33,7 @@ Loaded f m p s readings r s' readings' = LoadsIf f m (listed p.content.terms) (n
 
 -- the session after a work: its party's steps below number n are done, or as it was where it was stopped
 abbrev pub after : Session → ℕ → Result ℕ Halt → Session
-after x n (Ok k) = record { party = x.party; turn = From n }
+after x n (Ok k) = record { party = x.party; next = Some n }
 after x n (Err h) = x
 
 -- Carrying out a work on the lines of a script, whole: the comparisons counted, or the instruction at which it was stopped, and by
@@ -60,19 +59,19 @@ first (Some e) w = Err e
 abbrev pub Starts : {S X : Type 0} → Algebra X → (S → Meaning X) → Protocol → List ℕ → Session → S → List ℕ → Result ℕ SessionRefusal → Session → S → List ℕ → Type 0
 Starts f m p readings x s slots r x' s' slots' =
     Performed f m readings (lines_in p.content x.party) (λ w hs n. w.end)
-    (first (unready p.content x.party (length readings) (length slots)) (start_work p x.party x.turn))
+    (first (unready p.content x.party (length readings) (length slots)) (start_work p x.party x.next))
     x s slots r x' s' slots'
 
 -- sending answers the handles of the message and of the address
 abbrev pub Sends : {S X : Type 0} → Algebra X → (S → Meaning X) → Protocol → List ℕ → Session → S → List ℕ → Result (ℕ × ℕ) SessionRefusal → Session → S → List ℕ → Type 0
 Sends f m p readings x s slots r x' s' slots' =
     Performed f m readings (lines_in p.content x.party) (λ w hs n. sent_by (lines_in p.content x.party) w.end hs)
-    (first (unready p.content x.party (length readings) (length slots)) (send_work p x.party x.turn))
+    (first (unready p.content x.party (length readings) (length slots)) (send_work p x.party x.next))
     x s slots r x' s' slots'
 
 -- receiving answers how many comparisons were done
 abbrev pub Receives : {S X : Type 0} → Algebra X → (S → Meaning X) → Protocol → List ℕ → ℕ → ℕ → Session → S → List ℕ → Result ℕ SessionRefusal → Session → S → List ℕ → Type 0
 Receives f m p readings from message x s slots r x' s' slots' =
     Performed f m readings (lines_in p.content x.party) (λ w hs n. n)
-    (first (unready p.content x.party (length readings) (length slots)) (receive_work from message p x.party x.turn))
+    (first (unready p.content x.party (length readings) (length slots)) (receive_work from message p x.party x.next))
     x s slots r x' s' slots'

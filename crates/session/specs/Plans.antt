@@ -7,6 +7,7 @@ use Rattle.scripts.specs.declared.script.Script.{Script}
 use Rattle.scripts.specs.View.{written}
 use Rattle.rules.specs.State.{State}
 use Rattle.parts.specs.Parts.{initial, begin}
+use Rattle.acting.specs.declared.instruction.Part.{Part}
 use Rattle.acting.specs.declared.instruction.Part.TheVariants.{Start, Send, Receive}
 use Rattle.acting.specs.declared.refusal.SessionRefusal.{SessionRefusal}
 use Rattle.acting.specs.declared.refusal.SessionRefusal.TheVariants.{NoParty, NoMemory, NotItsTurn}
@@ -15,8 +16,6 @@ use Rattle.protocol.specs.declared.protocol.Protocol.{Protocol}
 use Rattle.protocol.specs.declared.step.Step.{Step}
 use Rattle.protocol.specs.View.{lines_of, steps_of}
 use Rattle.protocol.specs.Whole.{view_of}
-use Rattle.session.specs.declared.turn.Turn.{Turn}
-use Rattle.session.specs.declared.turn.Turn.TheVariants.{Unstarted, From}
 use Rattle.session.specs.declared.work.Work.{Work}
 use Rattle.session.specs.Turns.{next_of}
 
@@ -42,31 +41,38 @@ Readied c p readings slots (Ok s) = (unready c p readings slots ≡ None) × (li
 Readied c p readings slots (Err e) = unready c p readings slots ≡ Some e
 
 -- the party's next step with its number; none before the start
-abbrev pub next_step : Content → ℕ → Turn → Option (ℕ × Step)
-next_step c p Unstarted = None
-next_step c p (From n) = next_of (steps_of c) n p
+abbrev pub next_step : Content → ℕ → Option ℕ → Option (ℕ × Step)
+next_step c p None = None
+next_step c p (Some n) = next_of (steps_of c) n p
+
+-- without a next step it is not the party's turn
+abbrev pub turn_of : Option (ℕ × Step) → Result (ℕ × Step) SessionRefusal
+turn_of None = Err NotItsTurn
+turn_of (Some x) = Ok x
 
 -- to start: what precedes the party's first step
-abbrev pub start_work : Protocol → ℕ → Turn → Result Work SessionRefusal
-start_work p who Unstarted = Ok (record { start = 0; end = initial (view_of p) who; part = Start; next = 0 })
-start_work p who (From n) = Err NotItsTurn
+abbrev pub start_work : Protocol → ℕ → Option ℕ → Result Work SessionRefusal
+start_work p who None = Ok (record { start = 0; end = initial (view_of p) who; part = Start; next = 0 })
+start_work p who (Some n) = Err NotItsTurn
+
+-- the part of step l that agent p carries out up to `end`, if that is who asks
+abbrev pub part_work : State → ℕ → ℕ → ℕ → ℕ → Part → Result Work SessionRefusal
+part_work st who l p end part = cond (p == who) (Ok (record { start = begin st l p; end = end; part = part; next = l + 1 })) (Err NotItsTurn)
 
 -- to send: the sender's part of the party's next step, if it sends in it
 abbrev pub send_part : State → ℕ → Option (ℕ × Step) → Result Work SessionRefusal
 send_part st who None = Err NotItsTurn
-send_part st who (Some x) =
-    cond (x.1.sender == who) (Ok (record { start = begin st x.0 x.1.sender; end = x.1.sent; part = Send; next = x.0 + 1 })) (Err NotItsTurn)
+send_part st who (Some x) = part_work st who x.0 x.1.sender x.1.sent Send
 
 -- to send in a turn
-abbrev pub send_work : Protocol → ℕ → Turn → Result Work SessionRefusal
+abbrev pub send_work : Protocol → ℕ → Option ℕ → Result Work SessionRefusal
 send_work p who t = send_part (view_of p) who (next_step p.content who t)
 
 -- to receive: the receiver's part of the party's next step, if it receives in it, with what is handed to it
 abbrev pub receive_part : State → ℕ → ℕ → ℕ → Option (ℕ × Step) → Result Work SessionRefusal
 receive_part st who from message None = Err NotItsTurn
-receive_part st who from message (Some x) =
-    cond (x.1.receiver == who) (Ok (record { start = begin st x.0 x.1.receiver; end = x.1.received; part = Receive from message; next = x.0 + 1 })) (Err NotItsTurn)
+receive_part st who from message (Some x) = part_work st who x.0 x.1.receiver x.1.received (Receive from message)
 
 -- to receive in a turn, with the handles of the sender's name and the message
-abbrev pub receive_work : ℕ → ℕ → Protocol → ℕ → Turn → Result Work SessionRefusal
+abbrev pub receive_work : ℕ → ℕ → Protocol → ℕ → Option ℕ → Result Work SessionRefusal
 receive_work from message p who t = receive_part (view_of p) who from message (next_step p.content who t)

@@ -18,8 +18,6 @@ pub fn load<P: Provider>(
     if readings.len() < count {
         return Err(SessionRefusal::NoMemory);
     }
-    match acting::load(provider, terms, readings) {
-        Ok(_) => Ok(count),
-        Err(halt) => Err(SessionRefusal::stopped(halt)),
-    }
+    acting::load(provider, terms, readings)?;
+    Ok(count)
 }

@@ -1,16 +1,9 @@
-// Whose turn it is.
+// Which step of a protocol is a party's next one.
 ghost use Rattle.std.specs.Prelude.{◌≡◌, ◌<◌, IfSome};
 ghost use Rattle.protocol.specs.View.{steps_of};
 ghost use Rattle.session.specs.Turns.{takes_part, next_of, Next};
 
 use protocol::{Agent, Protocol, Step};
-
-// How far a session is: not started, or all of the party's steps below a number done.
-#[derive(Clone, Copy)]
-pub(crate) enum Turn {
-    Unstarted,
-    From(usize),
-}
 
 // Whether the party sends or receives in a step.
 fn takes_part(step: Step, party: Agent) -> bool
@@ -25,11 +18,8 @@ pub(crate) fn next_step(protocol: &Protocol, from: usize, party: Agent) -> Optio
     ensures lowest { Next (steps_of protocol.now.content) from party result }
     ensures few { IfSome result (λ x. x.0 < 64) }
 {
-    for number in from..protocol.steps() {
+    (from..protocol.steps()).find_map(|number| {
         let step = protocol.step(number)?;
-        if takes_part(step, party) {
-            return Some((number, step));
-        }
-    }
-    None
+        takes_part(step, party).then_some((number, step))
+    })
 }

@@ -4,7 +4,6 @@ ghost use Rattle.session.specs.Outcome.{Carried, Starts, Sends, Receives};
 
 use crate::sent::sent_by;
 use crate::session::Session;
-use crate::turn::Turn;
 use crate::work::Work;
 use acting::{Halt, SessionRefusal, carry_out};
 use protocol::Protocol;
@@ -24,9 +23,15 @@ impl Session {
         ensures { Carried P.algebra P.meaning readings.now (written script.now) work self.old provider.old slots.old result self.new provider.new slots.new }
     {
         let sames = carry_out(
-            provider, readings, slots, 0, script, work.start, work.end, work.part,
+            provider,
+            readings,
+            slots,
+            0,
+            script,
+            work.start..work.end,
+            work.part,
         )?;
-        self.turn = Turn::From(work.next);
+        self.next = Some(work.next);
         Ok(sames)
     }
 
@@ -42,10 +47,8 @@ impl Session {
     {
         let script = self.ready(protocol, readings.len(), slots.len())?;
         let work = self.starting(protocol)?;
-        match self.perform(script, provider, readings, slots, work) {
-            Ok(_) => Ok(work.end),
-            Err(halt) => Err(SessionRefusal::stopped(halt)),
-        }
+        self.perform(script, provider, readings, slots, work)?;
+        Ok(work.end)
     }
 
     // Carries out the sender's part of the party's next step, and answers the handles of the message and of the receiver's name.
@@ -60,10 +63,8 @@ impl Session {
     {
         let script = self.ready(protocol, readings.len(), slots.len())?;
         let work = self.sending(protocol)?;
-        match self.perform(script, provider, readings, slots, work) {
-            Ok(_) => Ok(sent_by(script, work.end, slots)),
-            Err(halt) => Err(SessionRefusal::stopped(halt)),
-        }
+        self.perform(script, provider, readings, slots, work)?;
+        Ok(sent_by(script, work.end, slots))
     }
 
     // Carries out the receiver's part of the party's next step, handed the sender's name and the message, and answers how many
@@ -81,9 +82,6 @@ impl Session {
     {
         let script = self.ready(protocol, readings.len(), slots.len())?;
         let work = self.receiving(protocol, from, message)?;
-        match self.perform(script, provider, readings, slots, work) {
-            Ok(sames) => Ok(sames),
-            Err(halt) => Err(SessionRefusal::stopped(halt)),
-        }
+        Ok(self.perform(script, provider, readings, slots, work)?)
     }
 }

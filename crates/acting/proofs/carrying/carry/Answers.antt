@@ -32,8 +32,8 @@ returns-in_err-slots g c =
     let e = err_from_is_err_and c.from_residual.result c.from_residual.ensures.1 in
     rw (e.1, e.2)
     (rest_stop p.algebra p.meaning (line_act a.readings.now a.part a.base) line_tally (slot_from a.base) ls end c.loop-at.at-counter c.loop-at.sames c.loop-at.provider c.loop-at.slots
-    (between a.range.start end ls) a.range.start a.provider.now a.slots.now c.loop-at.invariant.1 c.in-Some.line c.line.result c.act.new.provider c.act.result c.map_err.result _ below c.line.ensures c.in-Some.is
-    c.act.ensures c.map_err.ensures.cases c.in_err-slots.field-0.0 c.in_err-slots.was (λ x h q. search rules))
+    (between a.range.start end ls) a.range.start a.provider.now a.slots.now c.loop-at.invariant.1 c.in-Some.line c.line.result c.act-done.new.provider c.act-done.result c.map_err.result _ below c.line.ensures c.in-Some.is
+    c.act-done.ensures c.map_err.ensures.cases c.in_err-slots.field-0.0 c.in_err-slots.was (λ x h q. search rules))
 
 pub loop-at-preserved : goal.loop-at-preserved
 loop-at-preserved g c =
@@ -45,8 +45,8 @@ loop-at-preserved g c =
       omega (arith, c.comparisons.ensures.1, c.loop-at.invariant.0),
       rw c.comparisons.ensures.0
           (rest_more p.algebra p.meaning (line_act a.readings.now a.part a.base) line_tally (slot_from a.base) ls end c.loop-at.at-counter c.loop-at.sames c.loop-at.provider c.loop-at.slots
-          (between a.range.start end ls) a.range.start a.provider.now a.slots.now c.loop-at.invariant.1 c.in-Some.line c.line.result c.act.new.provider c.act.result c.map_err.result _ below c.line.ensures c.in-Some.is
-          c.act.ensures c.map_err.ensures.cases c.in_ok-slots.field-0 c.in_ok-slots.was),
+          (between a.range.start end ls) a.range.start a.provider.now a.slots.now c.loop-at.invariant.1 c.in-Some.line c.line.result c.act-done.new.provider c.act-done.result c.map_err.result _ below c.line.ensures c.in-Some.is
+          c.act-done.ensures c.map_err.ensures.cases c.in_ok-slots.field-0 c.in_ok-slots.was),
     )
 
 pub returns : goal.returns

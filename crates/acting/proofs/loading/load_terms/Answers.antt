@@ -26,8 +26,8 @@ returns-in_err-readings g c =
     let e = err_from_is_err_and c.from_residual.result c.from_residual.ensures.1 in
     rw (e.1, e.2)
     (rest_stop p.algebra p.meaning node_act one itself ts end c.loop-term.term-counter c.loop-term.term-counter c.loop-term.provider c.loop-term.readings
-    (take end ts) 0 c.args.provider.now c.args.readings.now c.loop-term.invariant c.in-Some.node (Some c.in-Some.node) c.make.new.provider c.make.result c.map_err.result _ c.loop-term-test.true
-    (sym (has_nth ts c.loop-term.term-counter c.in-Some.node c.in-Some.ensures.reads)) refl c.make.ensures c.map_err.ensures.cases
+    (take end ts) 0 c.args.provider.now c.args.readings.now c.loop-term.invariant c.in-Some.node (Some c.in-Some.node) c.make-made.new.provider c.make-made.result c.map_err.result _ c.loop-term-test.true
+    (sym (has_nth ts c.loop-term.term-counter c.in-Some.node c.in-Some.ensures.reads)) refl c.make-made.ensures c.map_err.ensures.cases
     c.in_err-readings.field-0.0 c.in_err-readings.was (λ x h q. search rules))
 
 pub loop-term-preserved : goal.loop-term-preserved
@@ -36,8 +36,8 @@ loop-term-preserved g c =
     let ts = listed c.args.terms.now in
     let end = length c.args.readings.now in
     rest_more p.algebra p.meaning node_act one itself ts end c.loop-term.term-counter c.loop-term.term-counter c.loop-term.provider c.loop-term.readings
-    (take end ts) 0 c.args.provider.now c.args.readings.now c.loop-term.invariant c.in-Some.node (Some c.in-Some.node) c.make.new.provider c.make.result c.map_err.result _ c.loop-term-test.true
-    (sym (has_nth ts c.loop-term.term-counter c.in-Some.node c.in-Some.ensures.reads)) refl c.make.ensures c.map_err.ensures.cases
+    (take end ts) 0 c.args.provider.now c.args.readings.now c.loop-term.invariant c.in-Some.node (Some c.in-Some.node) c.make-made.new.provider c.make-made.result c.map_err.result _ c.loop-term-test.true
+    (sym (has_nth ts c.loop-term.term-counter c.in-Some.node c.in-Some.ensures.reads)) refl c.make-made.ensures c.map_err.ensures.cases
     c.in_ok-readings.field-0 c.in_ok-readings.was
 
 pub returns : goal.returns

@@ -1,33 +1,22 @@
-use Rattle.std.proofs.Common.{arith}
+use Rattle.std.proofs.Common.{◌≡◌, Some, false, true, refl, rules}
+use Rattle.rules.specs.State.{nth}
+use Rattle.protocol.specs.declared.step.Step.{Step}
 use Rattle.protocol.specs.View.{steps_of}
-use Rattle.protocol.proofs.Holding.{sound}
-use Rattle.protocol.proofs.Reading.{steps_length}
-use Rattle.session.proofs.Next.{next_here, next_later, next_none, next_past}
-use Rattle.session.proofs.Lowest.{next_is}
+use Rattle.session.specs.Turns.{takes_part}
+use Rattle.session.proofs.Searching.{found}
+use Rattle.session.proofs.Lowest.{next_found, next_only}
 use Rattle.session.proofs.turn.next_step.Goals as goal
 
-pub returns-in_err-step : goal.returns-in_err-step
-returns-in_err-step c =
+lowest : goal.returns-clause-lowest
+lowest c =
     let xs = steps_of c.args.protocol.now.content in
-    let e = next_none xs c.args.from c.loop-number.number c.args.party c.loop-number.invariant c.in_err-step.ensures in
-    rw c.from_residual.ensures record { is = e; lowest = next_is xs c.args.from c.args.party _ e; few = tt }
+    let p = c.args.party in
+    next_found xs c.args.from p c.steps.result c.steps.ensures c.find_map.result
+    (found _ _ _ c.args.from c.steps.result refl (λ k. (x : Step) → nth xs k ≡ Some x → takes_part x p ≡ false) (λ k y. (y.0 ≡ k) × (nth xs k ≡ Some y.1) × (takes_part y.1 p ≡ true))
+    (λ a r f q. search rules) (λ k q x e. search rules) (λ k y q. search rules) c.find_map.result c.find_map.ensures.runs)
 
-pub returns-then-takes_part : goal.returns-then-takes_part
-returns-then-takes_part c =
-    let p = c.args.protocol.now in
-    let e = next_here (steps_of p.content) c.args.from c.loop-number.number c.args.party c.loop-number.invariant c.in_ok-step.step c.in_ok-step.ensures c.if-takes_part.ensures in
-    record {
-      is = e;
-      lowest = next_is (steps_of p.content) c.args.from c.args.party _ e;
-      few = omega (arith, c.loop-number-test.true, c.steps-number-end.ensures, steps_length p.content (sound p), (sound p).steps_few);
-    }
+pub returns-clause-lowest : goal.returns-clause-lowest
+returns-clause-lowest c = lowest c
 
-pub loop-number-preserved : goal.loop-number-preserved
-loop-number-preserved c =
-    next_later (steps_of c.args.protocol.now.content) c.args.from c.loop-number.number c.args.party c.loop-number.invariant c.in_ok-step.step c.in_ok-step.ensures c.if-takes_part.ensures
-
-pub returns : goal.returns
-returns c =
-    let xs = steps_of c.args.protocol.now.content in
-    let e = next_past xs c.args.from c.loop-number.number c.args.party c.loop-number.invariant (omega (arith, c.loop-number-test.false, c.steps-number-end.ensures)) in
-    record { is = e; lowest = next_is xs c.args.from c.args.party _ e; few = tt }
+pub returns-clause-is : goal.returns-clause-is
+returns-clause-is c = next_only (steps_of c.args.protocol.now.content) c.args.from c.args.party c.find_map.result (lowest c)
