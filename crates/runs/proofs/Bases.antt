@@ -1,10 +1,14 @@
 -- Where the parties' slots begin and end.
-use Rattle.std.proofs.Common.{◌≡◌, ℕ, zero, suc, ◌+◌, ◌<◌, ◌≤◌, min, ◌⊎◌, List, [], length, get_or, Some, sym, refl, ap, ◌∙◌, inl, inr, add-one, arith}
+use Rattle.std.proofs.Common.{◌≡◌, ℕ, zero, suc, ◌+◌, ◌<◌, ◌≤◌, min, ◌⊎◌, List, [], length, get_or, Some, None, Option, MatchOption, sym, refl, ap, ◌∙◌, inl, inr, add-one, arith}
 use Rattle.std.proofs.lemmas.List.{get_or_past}
 use Rattle.std.proofs.lemmas.Bool.{cases_lt}
+use Rattle.std.specs.Borrow.{Bor}
 use Rattle.scripts.specs.declared.instruction.Line.{Line}
+use Rattle.scripts.specs.declared.script.Script.{Script}
+use Rattle.scripts.specs.View.{written}
 use Rattle.rules.specs.State.{nth}
 use Rattle.rules.proofs.Nth.{some_is, nth_at, nth_below}
+use Rattle.protocol.specs.Reading.{ShowsScript}
 use Rattle.runs.specs.Memory.{lines_at, own_slots, base_of}
 
 -- the member of a number is what is read there
@@ -18,6 +22,12 @@ own_some ps (suc p) ls a e = sym (ap length (read_nth ps (suc p) ls [] e))
 pub own_none : (ps : List (List Line)) (p : ℕ) → length ps ≤ p → 0 ≡ own_slots ps p
 own_none ps zero l = refl
 own_none ps (suc p) l = sym (ap length (get_or_past ps (suc p) [] l))
+
+-- as many as the script that is shown has
+pub own_is : (ps : List (List Line)) (p : ℕ) → (p ≡ 0 → ⊥) → (o : Option (Bor Script)) (n : ℕ) (Q : Bor Script → Type 0) → ShowsScript ps p o → MatchOption o (n ≡ 0) Q
+    → ((s : Bor Script) → Q s → n ≡ length (written s.now)) → n ≡ own_slots ps p
+own_is ps p a None n Q w e len = e ∙ own_none ps p w
+own_is ps p a (Some s) n Q w q len = len s q ∙ own_some ps p (written s.now) a w
 
 -- a party's slots are as many as its lines
 pub own_party : (ps : List (List Line)) (p : ℕ) → 1 ≤ p → own_slots ps p ≡ length (lines_at ps p)

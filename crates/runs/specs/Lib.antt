@@ -2,3 +2,4 @@ pub mod Memory
 pub mod Tasks
 pub mod Runs
 pub mod Law
+pub mod Whole

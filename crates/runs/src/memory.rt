@@ -1,5 +1,5 @@
 // Where the parties' slots stand in a run: in a row by number.
-ghost use Rattle.std.specs.Prelude.{◌≡◌, ◌≤◌, slice_index};
+ghost use Rattle.std.specs.Prelude.{◌≡◌, ◌≤◌};
 ghost use Rattle.protocol.specs.View.{lines_of};
 ghost use Rattle.runs.specs.Memory.{own_slots, base_of, enough};
 ghost use Rattle.terms.specs.Listed.{listed};
@@ -17,10 +17,7 @@ fn own_slots(protocol: &Protocol, agent: Agent) -> usize
     if agent == LISTENER {
         return 0;
     }
-    match protocol.script(agent) {
-        Some(script) => script.len(),
-        None => 0,
-    }
+    protocol.script(agent).map_or(0, |script| script.len())
 }
 
 // Where a party's slots begin.
@@ -39,15 +36,4 @@ pub(crate) fn is_enough(protocol: &Protocol, readings: &[Handle], slots: &[Handl
     ensures { result ≡ enough (listed protocol.now.content.terms) (lines_of protocol.now.content) readings.now slots.now }
 {
     protocol.terms().len() <= readings.len() && base_of(protocol, protocol.agents()) <= slots.len()
-}
-
-// The handle of a term; 0 where there is none.
-pub(crate) fn reading(readings: &[Handle], term: usize) -> Handle
-    ensures { result ≡ slice_index readings.now term }
-{
-    if term < readings.len() {
-        readings[term]
-    } else {
-        0
-    }
 }

@@ -1,18 +1,15 @@
 // Whole runs.
-ghost use Rattle.std.specs.Prelude.{◌≡◌, ◌≤◌, length, IfOk};
-ghost use Rattle.protocol.specs.View.{lines_of, steps_of};
+ghost use Rattle.std.specs.Prelude.{◌++◌, ◌≤◌, IfOk};
 ghost use Rattle.protocol.specs.Whole.{view_of};
-ghost use Rattle.runs.specs.Tasks.{Tasks, start_tasks, step_tasks, both_tasks};
-ghost use Rattle.runs.specs.Law.{RunLaw};
-ghost use Rattle.runs.specs.Memory.{Enough};
-ghost use Rattle.runs.specs.Runs.{Ran, Runs, Refused, RestKept, tasks_of, played_of, early_fault};
-ghost use Rattle.terms.specs.Listed.{listed};
+ghost use Rattle.runs.specs.Tasks.{both_tasks};
+ghost use Rattle.runs.specs.Runs.{Refused};
+ghost use Rattle.runs.specs.Whole.{EnoughOf, TasksOf, RunsOf, RanOf, RestKeptOf, RunLawOf, starts_of, steps_tasks_of};
 
 use crate::fault::{Played, RunFault};
 use crate::memory::is_enough;
-use crate::task::{BEFORE_STEPS, perform, receive_task, send_task, start_task};
+use crate::task::{Task, perform};
 use acting::{SessionRefusal, load};
-use protocol::{LISTENER, Protocol, Step};
+use protocol::{Protocol, Step};
 use provider::{Handle, Provider};
 
 // Starts every party by number, and answers how many comparisons were done.
@@ -22,18 +19,13 @@ fn start_parties<P: Provider>(
     readings: &[Handle],
     slots: &mut [Handle],
 ) -> Result<usize, RunFault>
-    ensures whole { Tasks P.algebra P.meaning (listed protocol.now.content.terms) (lines_of protocol.now.content) readings.now (start_tasks (view_of protocol.now) (length (lines_of protocol.now.content))) provider.old slots.old result provider.new slots.new }
+    ensures whole { TasksOf P.algebra P.meaning protocol.now readings.now (starts_of protocol.now) provider.old slots.old result provider.new slots.new }
     ensures few { IfOk result (λ n. n ≤ 4096) }
 {
     let mut sames = 0;
     for party in 1..protocol.agents() {
-        sames += perform(
-            protocol,
-            provider,
-            readings,
-            slots,
-            start_task(protocol, party),
-        )?;
+        let task = Task::start(protocol, party);
+        sames += perform(protocol, provider, readings, slots, task)?;
     }
     Ok(sames)
 }
@@ -47,23 +39,13 @@ fn play_step<P: Provider>(
     number: usize,
     step: Step,
 ) -> Result<usize, RunFault>
-    ensures whole { Tasks P.algebra P.meaning (listed protocol.now.content.terms) (lines_of protocol.now.content) readings.now (both_tasks (view_of protocol.now) number step) provider.old slots.old result provider.new slots.new }
+    ensures whole { TasksOf P.algebra P.meaning protocol.now readings.now (both_tasks (view_of protocol.now) number step) provider.old slots.old result provider.new slots.new }
     ensures few { IfOk result (λ n. n ≤ 1024) }
 {
-    let sent = perform(
-        protocol,
-        provider,
-        readings,
-        slots,
-        send_task(protocol, number, step),
-    )?;
-    let received = perform(
-        protocol,
-        provider,
-        readings,
-        slots,
-        receive_task(protocol, number, step),
-    )?;
+    let send = Task::send(protocol, number, step);
+    let sent = perform(protocol, provider, readings, slots, send)?;
+    let receive = Task::receive(protocol, number, step);
+    let received = perform(protocol, provider, readings, slots, receive)?;
     Ok(sent + received)
 }
 
@@ -74,7 +56,7 @@ fn play_steps<P: Provider>(
     readings: &[Handle],
     slots: &mut [Handle],
 ) -> Result<usize, RunFault>
-    ensures whole { Tasks P.algebra P.meaning (listed protocol.now.content.terms) (lines_of protocol.now.content) readings.now (step_tasks (view_of protocol.now) 0 (steps_of protocol.now.content)) provider.old slots.old result provider.new slots.new }
+    ensures whole { TasksOf P.algebra P.meaning protocol.now readings.now (steps_tasks_of protocol.now) provider.old slots.old result provider.new slots.new }
     ensures few { IfOk result (λ n. n ≤ 65536) }
 {
     let mut sames = 0;
@@ -94,35 +76,11 @@ fn play_all<P: Provider>(
     readings: &[Handle],
     slots: &mut [Handle],
 ) -> Result<usize, RunFault>
-    ensures { Tasks P.algebra P.meaning (listed protocol.now.content.terms) (lines_of protocol.now.content) readings.now (tasks_of (listed protocol.now.content.terms) (lines_of protocol.now.content) (steps_of protocol.now.content)) provider.old slots.old result provider.new slots.new }
+    ensures { TasksOf P.algebra P.meaning protocol.now readings.now (starts_of protocol.now ++ steps_tasks_of protocol.now) provider.old slots.old result provider.new slots.new }
 {
     let started = start_parties(protocol, provider, readings, slots)?;
     let played = play_steps(protocol, provider, readings, slots)?;
     Ok(started + played)
-}
-
-// What the whole run answers.
-fn answer(protocol: &Protocol, done: Result<usize, RunFault>) -> Result<Played, RunFault>
-    ensures { result ≡ played_of (length (steps_of protocol.now.content)) done }
-{
-    match done {
-        Ok(sames) => Ok(Played {
-            steps: protocol.steps(),
-            sames,
-        }),
-        Err(fault) => Err(fault),
-    }
-}
-
-// The refusal outside of all scripts, before the first step.
-fn refused(refusal: SessionRefusal) -> RunFault
-    ensures { result ≡ early_fault refusal }
-{
-    RunFault {
-        refusal,
-        step: BEFORE_STEPS,
-        party: LISTENER,
-    }
 }
 
 // Loads every term, and then plays all.
@@ -132,12 +90,14 @@ fn load_and_play<P: Provider>(
     readings: &mut [Handle],
     slots: &mut [Handle],
 ) -> Result<Played, RunFault>
-    ensures { Runs P.algebra P.meaning (listed protocol.now.content.terms) (lines_of protocol.now.content) (steps_of protocol.now.content) provider.old readings.old slots.old result provider.new readings.new slots.new }
+    ensures { RunsOf P.algebra P.meaning protocol.now provider.old readings.old slots.old result provider.new readings.new slots.new }
 {
-    match load(provider, protocol.terms(), readings) {
-        Ok(_) => answer(protocol, play_all(protocol, provider, readings, slots)),
-        Err(halt) => Err(refused(SessionRefusal::stopped(halt))),
-    }
+    load(provider, protocol.terms(), readings).map_err(SessionRefusal::from)?;
+    let sames = play_all(protocol, provider, readings, slots)?;
+    Ok(Played {
+        steps: protocol.steps(),
+        sames,
+    })
 }
 
 // The run, unless there is too little memory for it.
@@ -147,12 +107,12 @@ fn try_run<P: Provider>(
     readings: &mut [Handle],
     slots: &mut [Handle],
 ) -> Result<Played, RunFault>
-    ensures { Ran P.algebra P.meaning (listed protocol.now.content.terms) (lines_of protocol.now.content) (steps_of protocol.now.content) provider.old readings.old slots.old result provider.new readings.new slots.new }
+    ensures { RanOf P.algebra P.meaning protocol.now provider.old readings.old slots.old result provider.new readings.new slots.new }
 {
     if is_enough(protocol, readings, slots) {
         load_and_play(protocol, provider, readings, slots)
     } else {
-        Err(refused(SessionRefusal::NoMemory))
+        Err(SessionRefusal::NoMemory.into())
     }
 }
 
@@ -163,10 +123,10 @@ pub fn run<P: Provider>(
     readings: &mut [Handle],
     slots: &mut [Handle],
 ) -> Result<Played, RunFault>
-    ensures whole { Ran P.algebra P.meaning (listed protocol.now.content.terms) (lines_of protocol.now.content) (steps_of protocol.now.content) provider.old readings.old slots.old result provider.new readings.new slots.new }
-    ensures memory { (Enough (listed protocol.now.content.terms) (lines_of protocol.now.content) readings.old slots.old → ⊥) → Refused provider.old readings.old slots.old result provider.new readings.new slots.new }
-    ensures keeps { RestKept P.meaning (listed protocol.now.content.terms) (lines_of protocol.now.content) provider.old readings.old slots.old provider.new readings.new slots.new }
-    ensures law { RunLaw P.algebra P.meaning (listed protocol.now.content.terms) (lines_of protocol.now.content) (steps_of protocol.now.content) readings.old slots.old result provider.new readings.new slots.new }
+    ensures whole { RanOf P.algebra P.meaning protocol.now provider.old readings.old slots.old result provider.new readings.new slots.new }
+    ensures memory { (EnoughOf protocol.now readings.old slots.old → ⊥) → Refused provider.old readings.old slots.old result provider.new readings.new slots.new }
+    ensures keeps { RestKeptOf P.meaning protocol.now provider.old readings.old slots.old provider.new readings.new slots.new }
+    ensures law { RunLawOf P.algebra P.meaning protocol.now readings.old slots.old result provider.new readings.new slots.new }
 {
     try_run(protocol, provider, readings, slots)
 }

@@ -3,17 +3,15 @@ ghost use Rattle.std.specs.Prelude.{◌≡◌, ◌+◌, ◌-◌, ◌≤◌, IfOk
 ghost use Rattle.protocol.specs.View.{lines_of};
 ghost use Rattle.protocol.specs.Whole.{view_of};
 ghost use Rattle.runs.specs.Memory.{base_of};
-ghost use Rattle.runs.specs.Tasks.{Hands, Handles, Does, start_task, send_task, receive_task, outcome_of};
+ghost use Rattle.runs.specs.Tasks.{Hands, Handles, start_task, send_task, receive_task, outcome_of};
+ghost use Rattle.runs.specs.Whole.{DoesOf};
 ghost use Rattle.terms.specs.Listed.{listed};
 
-use crate::fault::RunFault;
-use crate::memory::{base_of, reading};
+use crate::fault::{BEFORE_STEPS, RunFault};
+use crate::memory::base_of;
 use acting::{Halt, Part, SessionRefusal, carry_out};
 use protocol::{Agent, Protocol, Step};
 use provider::{Handle, Provider};
-
-// The number by which what precedes the first step is known.
-pub(crate) const BEFORE_STEPS: usize = 64;
 
 // What a part of a script is carried out for. To receive is to be handed the sender's name, and the message in the last slot that
 // the sender has done.
@@ -34,45 +32,58 @@ pub(crate) struct Task {
     pub(crate) role: Role,
 }
 
-// What a party does before the first step.
-pub(crate) fn start_task(protocol: &Protocol, party: Agent) -> Task
-    ensures { result ≡ start_task (view_of protocol.now) party }
-{
-    Task {
-        step: BEFORE_STEPS,
-        party,
-        start: 0,
-        end: protocol.initial(party),
-        role: Role::Start,
+impl Task {
+    // What a party does before the first step.
+    pub(crate) fn start(protocol: &Protocol, party: Agent) -> Task
+        ensures { result ≡ start_task (view_of protocol.now) party }
+    {
+        Task {
+            step: BEFORE_STEPS,
+            party,
+            start: 0,
+            end: protocol.initial(party),
+            role: Role::Start,
+        }
     }
-}
 
-// What the sender does in a step.
-pub(crate) fn send_task(protocol: &Protocol, number: usize, step: Step) -> Task
-    ensures { result ≡ send_task (view_of protocol.now) number step }
-{
-    Task {
-        step: number,
-        party: step.sender,
-        start: protocol.begin(number, step.sender),
-        end: step.sent,
-        role: Role::Send,
+    // What the sender does in a step.
+    pub(crate) fn send(protocol: &Protocol, number: usize, step: Step) -> Task
+        ensures { result ≡ send_task (view_of protocol.now) number step }
+    {
+        Task {
+            step: number,
+            party: step.sender,
+            start: protocol.begin(number, step.sender),
+            end: step.sent,
+            role: Role::Send,
+        }
     }
-}
 
-// What the receiver does in a step.
-pub(crate) fn receive_task(protocol: &Protocol, number: usize, step: Step) -> Task
-    ensures { result ≡ receive_task (view_of protocol.now) number step }
-{
-    Task {
-        step: number,
-        party: step.receiver,
-        start: protocol.begin(number, step.receiver),
-        end: step.received,
-        role: Role::Receive {
-            sender: step.sender,
-            sent: step.sent,
-        },
+    // What the receiver does in a step.
+    pub(crate) fn receive(protocol: &Protocol, number: usize, step: Step) -> Task
+        ensures { result ≡ receive_task (view_of protocol.now) number step }
+    {
+        Task {
+            step: number,
+            party: step.receiver,
+            start: protocol.begin(number, step.receiver),
+            end: step.received,
+            role: Role::Receive {
+                sender: step.sender,
+                sent: step.sent,
+            },
+        }
+    }
+
+    // What comes of it, from what came of its part of the script.
+    fn outcome(self, done: Result<usize, Halt>) -> Result<usize, RunFault>
+        ensures { result ≡ outcome_of self done }
+    {
+        done.map_err(|halt| RunFault {
+            refusal: SessionRefusal::from(halt),
+            step: self.step,
+            party: self.party,
+        })
     }
 }
 
@@ -80,23 +91,20 @@ pub(crate) fn receive_task(protocol: &Protocol, number: usize, step: Step) -> Ta
 fn name_reading(protocol: &Protocol, readings: &[Handle], party: Agent) -> Handle
     ensures { Handles (listed protocol.now.content.terms) readings.now party result }
 {
-    match protocol.name_of(party) {
-        Some(name) => reading(readings, name),
-        None => 0,
-    }
+    protocol
+        .name_of(party)
+        .and_then(|name| readings.get(name).copied())
+        .unwrap_or(0)
 }
 
 // The last handle that a party has put when it has done so many instructions; 0 where there is none.
 fn last_put(protocol: &Protocol, slots: &[Handle], party: Agent, done: usize) -> Handle
     ensures { result ≡ slice_index slots.now (base_of (lines_of protocol.now.content) party + (done - 1)) }
 {
-    let base = base_of(protocol, party);
-    let last = done.saturating_sub(1);
-    if base <= slots.len() && last < slots.len() - base {
-        slots[base + last]
-    } else {
-        0
-    }
+    slots
+        .get(base_of(protocol, party)..)
+        .and_then(|own| own.get(done.saturating_sub(1)).copied())
+        .unwrap_or(0)
 }
 
 // What a party is handed.
@@ -113,20 +121,6 @@ fn part_of(protocol: &Protocol, readings: &[Handle], slots: &[Handle], role: Rol
     }
 }
 
-// What comes of a task, from what came of its part of the script.
-fn outcome(task: Task, done: Result<usize, Halt>) -> Result<usize, RunFault>
-    ensures { result ≡ outcome_of task done }
-{
-    match done {
-        Ok(sames) => Ok(sames),
-        Err(halt) => Err(RunFault {
-            refusal: SessionRefusal::stopped(halt),
-            step: task.step,
-            party: task.party,
-        }),
-    }
-}
-
 // Carries out a task, and answers how many comparisons were done. A party without a script does nothing.
 pub(crate) fn perform<P: Provider>(
     protocol: &Protocol,
@@ -135,7 +129,7 @@ pub(crate) fn perform<P: Provider>(
     slots: &mut [Handle],
     task: Task,
 ) -> Result<usize, RunFault>
-    ensures whole { Does P.algebra P.meaning (listed protocol.now.content.terms) (lines_of protocol.now.content) readings.now task provider.old slots.old result provider.new slots.new }
+    ensures whole { DoesOf P.algebra P.meaning protocol.now readings.now task provider.old slots.old result provider.new slots.new }
     ensures few { IfOk result (λ n. n ≤ 512) }
 {
     let part = part_of(protocol, readings, slots, task.role);
@@ -143,10 +137,14 @@ pub(crate) fn perform<P: Provider>(
     let Some(script) = protocol.script(task.party) else {
         return Ok(0);
     };
-    outcome(
-        task,
-        carry_out(
-            provider, readings, slots, base, script, task.start, task.end, part,
-        ),
-    )
+    let done = carry_out(
+        provider,
+        readings,
+        slots,
+        base,
+        script,
+        task.start..task.end,
+        part,
+    );
+    task.outcome(done)
 }

@@ -30,8 +30,8 @@ returns-in_err-sames g c =
     rw (q.1, q.2) (record {
       whole = rest_stop p.algebra p.meaning (listed k.terms) (lines_of k) a.readings.now (start_tasks st n) a.provider.now a.slots.now (start_task st i ∷ []) (starts_from st (i + 1) (n - (i + 1))) (starts_from st i (n - i))
           c.loop-party.sames c.loop-party.provider c.loop-party.slots (starts_more st n i below) c.loop-party.invariant.2 c.in_err-sames.field-0.0 c.perform.new.provider c.perform.new.slots
-          (one_stop p.algebra p.meaning (listed k.terms) (lines_of k) a.readings.now c.start_task.result (start_task st i) c.loop-party.provider c.loop-party.slots c.in_err-sames.field-0.0 c.perform.new.provider c.perform.new.slots
-          c.start_task.ensures c.in_err-sames.ensures.whole);
+          (one_stop p.algebra p.meaning (listed k.terms) (lines_of k) a.readings.now c.start-task.result (start_task st i) c.loop-party.provider c.loop-party.slots c.in_err-sames.field-0.0 c.perform.new.provider c.perform.new.slots
+          c.start-task.ensures c.in_err-sames.ensures.whole);
       few = tt;
     })
 
@@ -53,8 +53,8 @@ loop-party-preserved g c =
       omega (arith, c.loop-party.invariant.1, c.in_ok-sames.ensures.few),
       rest_more p.algebra p.meaning (listed k.terms) (lines_of k) a.readings.now (start_tasks st n) a.provider.now a.slots.now (start_task st i ∷ []) (starts_from st (i + 1) (n - (i + 1))) (starts_from st i (n - i))
           c.loop-party.sames c.loop-party.provider c.loop-party.slots (starts_more st n i below) c.loop-party.invariant.2 c.in_ok-sames.field-0 c.perform.new.provider c.perform.new.slots
-          (one_done p.algebra p.meaning (listed k.terms) (lines_of k) a.readings.now c.start_task.result (start_task st i) c.loop-party.provider c.loop-party.slots c.in_ok-sames.field-0 c.perform.new.provider c.perform.new.slots
-          c.start_task.ensures c.in_ok-sames.ensures.whole),
+          (one_done p.algebra p.meaning (listed k.terms) (lines_of k) a.readings.now c.start-task.result (start_task st i) c.loop-party.provider c.loop-party.slots c.in_ok-sames.field-0 c.perform.new.provider c.perform.new.slots
+          c.start-task.ensures c.in_ok-sames.ensures.whole),
     )
 
 pub returns : goal.returns

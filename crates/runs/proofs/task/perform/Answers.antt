@@ -35,11 +35,11 @@ returns g c =
     record {
       whole = (
         c.part_of-part.result,
-        c.carry_out.result,
+        c.carry_out-done.result,
         c.part_of-part.ensures,
         carry_is p.algebra p.meaning a.readings.now c.part_of-part.result c.base_of-base.result (base_of ps t.party) ls (lines_at ps t.party) t.start t.end a.provider.now a.slots.now
-            c.carry_out.result c.carry_out.new.provider c.carry_out.new.slots c.base_of-base.ensures (sym (read_nth ps t.party ls [] c.in-Some.ensures)) c.carry_out.ensures.whole,
+            c.carry_out-done.result c.carry_out-done.new.provider c.carry_out-done.new.slots c.base_of-base.ensures (sym (read_nth ps t.party ls [] c.in-Some.ensures)) c.carry_out-done.ensures.whole,
         c.outcome.ensures,
       );
-      few = few_outcome t c.carry_out.result c.outcome.result (λ (h : Halt). (t.start ≤ h.at) × (h.at < t.end)) c.outcome.ensures c.carry_out.ensures.bounds;
+      few = few_outcome t c.carry_out-done.result c.outcome.result (λ (h : Halt). (t.start ≤ h.at) × (h.at < t.end)) c.outcome.ensures c.carry_out-done.ensures.bounds;
     }
