@@ -4,103 +4,120 @@ use byte_provider::ByteProvider;
 use protocol::{Agent, Protocol};
 use provider::Handle;
 use scripts::Instruction;
-use std::io;
+use std::ops::Range;
+use std::{fmt, io};
 use terms::TermId;
 
 // What an agent is called.
 fn agent_name(agent: Agent) -> &'static str {
-    if agent < AGENT_NAMES.len() {
-        AGENT_NAMES[agent]
-    } else {
-        "agent"
-    }
+    AGENT_NAMES.get(agent).copied().unwrap_or("agent")
 }
 
 // What a term is called.
 fn term_name(term: TermId) -> &'static str {
-    if term < TERM_NAMES.len() {
-        TERM_NAMES[term]
-    } else {
-        "term"
-    }
-}
-
-// The bytes that a handle stands for.
-fn print_bytes(rt: &HostRuntime, provider: &ByteProvider, handle: Handle) -> io::Result<()> {
-    let mut bytes = [0; 128];
-    match provider.read(handle, &mut bytes) {
-        Ok(n) => {
-            print!(rt; ":")?;
-            for byte in bytes.iter().take(n) {
-                print!(rt; " {byte}")?;
-            }
-            println!(rt; "")
-        }
-        Err(_) => println!(rt; ": more than 128 bytes"),
-    }
+    TERM_NAMES.get(term).copied().unwrap_or("term")
 }
 
 // An instruction in words.
-fn print_action(rt: &HostRuntime, op: Instruction) -> io::Result<()> {
-    match op {
-        Instruction::Given(t) => print!(rt; "starts with the {}", term_name(t)),
-        Instruction::Fresh(t) => print!(rt; "makes the {}", term_name(t)),
-        Instruction::From(t) => print!(rt; "hears from the {}", term_name(t)),
-        Instruction::To(t) => print!(rt; "hears that it goes to the {}", term_name(t)),
-        Instruction::Recv(t) => print!(rt; "receives the {}", term_name(t)),
-        Instruction::Mate(s) => print!(rt; "takes the mate of slot {s}"),
-        Instruction::Left(s) => print!(rt; "takes the left half of slot {s}"),
-        Instruction::Right(s) => print!(rt; "takes the right half of slot {s}"),
-        Instruction::Join(a, b) => print!(rt; "joins slots {a} and {b}"),
-        Instruction::Seal(c, k) => print!(rt; "seals slot {c} under slot {k}"),
-        Instruction::Digest(f, t) => print!(rt; "digests slot {t} under slot {f}"),
-        Instruction::Entry(t, p) => print!(rt; "looks slot {p} up in slot {t}"),
-        Instruction::Open(s, o) => print!(rt; "opens slot {s} with slot {o}"),
-        Instruction::Same(a, b) => print!(rt; "compares slots {a} and {b}, which are the same"),
-        Instruction::Send(m, a) => print!(rt; "sends slot {m} to slot {a}"),
-    }
-}
+#[derive(Clone, Copy)]
+struct Action(Instruction);
 
-// The actions of an agent's script from one place up to another, with the bytes that came of each. The agent's slots begin at base.
-pub fn print_part(
-    rt: &HostRuntime,
-    protocol: &Protocol,
-    provider: &ByteProvider,
-    slots: &[Handle],
-    agent: Agent,
-    from: usize,
-    to: usize,
-) -> io::Result<()> {
-    let base = slots_before(protocol, agent);
-    let Some(script) = protocol.script(agent) else {
-        return Ok(());
-    };
-    for slot in from..to {
-        if let Some(line) = script.line(slot) {
-            print!(rt; "  {}: {slot}: ", agent_name(agent))?;
-            print_action(rt, line.op)?;
-            print_bytes(rt, provider, handle_at(slots, base, slot))?;
+impl fmt::Display for Action {
+    fn fmt<W: fmt::Write>(&self, f: &mut fmt::Formatter<W>) -> fmt::Result {
+        match self.0 {
+            Instruction::Given(t) => write!(f, "starts with the {}", term_name(t)),
+            Instruction::Fresh(t) => write!(f, "makes the {}", term_name(t)),
+            Instruction::From(t) => write!(f, "hears from the {}", term_name(t)),
+            Instruction::To(t) => write!(f, "hears that it goes to the {}", term_name(t)),
+            Instruction::Recv(t) => write!(f, "receives the {}", term_name(t)),
+            Instruction::Mate(s) => write!(f, "takes the mate of slot {s}"),
+            Instruction::Left(s) => write!(f, "takes the left half of slot {s}"),
+            Instruction::Right(s) => write!(f, "takes the right half of slot {s}"),
+            Instruction::Join(a, b) => write!(f, "joins slots {a} and {b}"),
+            Instruction::Seal(c, k) => write!(f, "seals slot {c} under slot {k}"),
+            Instruction::Digest(g, t) => write!(f, "digests slot {t} under slot {g}"),
+            Instruction::Entry(t, p) => write!(f, "looks slot {p} up in slot {t}"),
+            Instruction::Open(s, o) => write!(f, "opens slot {s} with slot {o}"),
+            Instruction::Same(a, b) => {
+                write!(f, "compares slots {a} and {b}, which are the same")
+            }
+            Instruction::Send(m, a) => write!(f, "sends slot {m} to slot {a}"),
         }
     }
-    Ok(())
 }
 
-// The handle in a slot of those that begin at base; 0 past the end.
-fn handle_at(slots: &[Handle], base: usize, slot: usize) -> Handle {
-    if base <= slots.len() && slot < slots.len() - base {
-        slots[base + slot]
-    } else {
-        0
+// A run that was played: its protocol, its provider, and what the slots of its parties hold.
+#[derive(Clone, Copy)]
+pub struct Rehearsal<'a> {
+    pub protocol: &'a Protocol,
+    pub provider: &'a ByteProvider,
+    pub slots: &'a [Handle],
+}
+
+impl<'a> Rehearsal<'a> {
+    // What each party does before its first step.
+    pub fn print_starts(&self, rt: &HostRuntime) -> io::Result<()> {
+        println!(rt; "before the first step")?;
+        for party in 1..self.protocol.agents() {
+            self.print_part(rt, party, 0..self.protocol.initial(party))?;
+        }
+        Ok(())
     }
-}
 
-// How many slots the parties before this one have.
-fn slots_before(protocol: &Protocol, agent: Agent) -> usize {
-    let mut base = 0usize;
-    for earlier in 1..agent {
-        if let Some(script) = protocol.script(earlier) {
-            base = base.saturating_add(script.len());
+    // Each step: what its sender does, then its receiver.
+    pub fn print_steps(&self, rt: &HostRuntime) -> io::Result<()> {
+        for number in 0..self.protocol.steps() {
+            let Some(step) = self.protocol.step(number) else {
+                return Ok(());
+            };
+            println!(rt; "step {number}")?;
+            let sending = self.protocol.begin(number, step.sender)..step.sent;
+            self.print_part(rt, step.sender, sending)?;
+            let receiving = self.protocol.begin(number, step.receiver)..step.received;
+            self.print_part(rt, step.receiver, receiving)?;
+        }
+        Ok(())
+    }
+
+    // The actions in a range of an agent's script, with the bytes that came of each.
+    fn print_part(&self, rt: &HostRuntime, agent: Agent, range: Range<usize>) -> io::Result<()> {
+        let Some(script) = self.protocol.script(agent) else {
+            return Ok(());
+        };
+        let base = self.slots_before(agent);
+        for slot in range {
+            if let Some(line) = script.line(slot) {
+                print!(rt; "  {}: {slot}: {}", agent_name(agent), Action(line.op))?;
+                self.print_bytes(rt, base.saturating_add(slot))?;
+            }
+        }
+        Ok(())
+    }
+
+    // The bytes that the handle in a slot stands for.
+    fn print_bytes(&self, rt: &HostRuntime, slot: usize) -> io::Result<()> {
+        let handle = self.slots.get(slot).copied().unwrap_or(0);
+        let mut bytes = [0; 128];
+        match self.provider.read(handle, &mut bytes) {
+            Ok(n) => {
+                print!(rt; ":")?;
+                for byte in bytes.iter().take(n) {
+                    print!(rt; " {byte}")?;
+                }
+                println!(rt; "")
+            }
+            Err(_) => println!(rt; ": more than 128 bytes"),
         }
     }
-    base
+
+    // How many slots the parties before this one have.
+    fn slots_before(&self, agent: Agent) -> usize {
+        let mut base = 0usize;
+        for earlier in 1..agent {
+            if let Some(script) = self.protocol.script(earlier) {
+                base = base.saturating_add(script.len());
+            }
+        }
+        base
+    }
 }

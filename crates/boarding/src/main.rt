@@ -5,13 +5,11 @@
 mod actions;
 mod boarding;
 
-use actions::print_part;
+use actions::Rehearsal;
 use boarding::CALLS;
 use byte_provider::ByteProvider;
 use compiled::compile_and_run;
 use protocol::{Answer, Protocol};
-use provider::Handle;
-use runs::RunFault;
 use std::io;
 
 // The calls that were refused, if any was.
@@ -22,71 +20,6 @@ fn print_refusals(rt: &HostRuntime, answers: &[Answer]) -> io::Result<()> {
         }
     }
     Ok(())
-}
-
-// What each party does before its first step.
-fn print_starts(
-    rt: &HostRuntime,
-    protocol: &Protocol,
-    provider: &ByteProvider,
-    slots: &[Handle],
-) -> io::Result<()> {
-    println!(rt; "before the first step")?;
-    for party in 1..protocol.agents() {
-        print_part(
-            rt,
-            protocol,
-            provider,
-            slots,
-            party,
-            0,
-            protocol.initial(party),
-        )?;
-    }
-    Ok(())
-}
-
-// Each step: what its sender does, then its receiver.
-fn print_steps(
-    rt: &HostRuntime,
-    protocol: &Protocol,
-    provider: &ByteProvider,
-    slots: &[Handle],
-) -> io::Result<()> {
-    for number in 0..protocol.steps() {
-        let Some(step) = protocol.step(number) else {
-            return Ok(());
-        };
-        println!(rt; "step {number}")?;
-        print_part(
-            rt,
-            protocol,
-            provider,
-            slots,
-            step.sender,
-            protocol.begin(number, step.sender),
-            step.sent,
-        )?;
-        print_part(
-            rt,
-            protocol,
-            provider,
-            slots,
-            step.receiver,
-            protocol.begin(number, step.receiver),
-            step.received,
-        )?;
-    }
-    Ok(())
-}
-
-fn print_fault(rt: &HostRuntime, fault: RunFault) -> io::Result<()> {
-    let step = fault.step;
-    let party = fault.party;
-    println!(rt;
-        "stopped in step {step} at party {party}: {}",
-        fault.refusal.number()
-    )
 }
 
 fn main(rt: HostRuntime) -> io::Result<()> {
@@ -106,12 +39,25 @@ fn main(rt: HostRuntime) -> io::Result<()> {
     print_refusals(&rt, &answers)?;
     match run {
         Ok(played) => {
-            print_starts(&rt, &protocol, &provider, &slots)?;
-            print_steps(&rt, &protocol, &provider, &slots)?;
-            let steps = played.steps;
-            let sames = played.sames;
-            println!(rt; "{steps} steps played, {sames} values compared")
+            let rehearsal = Rehearsal {
+                protocol: &protocol,
+                provider: &provider,
+                slots: &slots,
+            };
+            rehearsal.print_starts(&rt)?;
+            rehearsal.print_steps(&rt)?;
+            println!(rt;
+                "{} steps played, {} values compared",
+                played.steps, played.sames
+            )
         }
-        Err(fault) => print_fault(&rt, fault),
+        Err(fault) => {
+            println!(rt;
+                "stopped in step {} at party {}: {}",
+                fault.step,
+                fault.party,
+                fault.refusal.number()
+            )
+        }
     }
 }
