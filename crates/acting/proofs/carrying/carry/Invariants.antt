@@ -6,7 +6,9 @@ use Rattle.acting.proofs.carrying.carry.Given as goal
 
 abbrev pub invariant-loop-at : goal.invariant-loop-at
 invariant-loop-at g l =
-    (l.sames ≤ l.at-counter)
-    × Rest g.P.Provider.algebra g.P.Provider.meaning (line_act l.readings l.part l.base) line_tally (slot_from l.base)
-    (between l.at-counter (min l.fn.range.end (length l.initial.slots - l.base)) (written l.script)) l.at-counter l.sames l.provider l.slots
-    (between l.fn.range.start (min l.fn.range.end (length l.initial.slots - l.base)) (written l.script)) l.fn.range.start l.initial.provider l.initial.slots
+    let end = min l.fn.range.end (length l.initial.slots - l.base) in
+    record {
+      few : l.sames ≤ l.at-counter;
+      rest : Rest g.P.Provider.algebra g.P.Provider.meaning (line_act l.readings l.part l.base) line_tally (slot_from l.base) (between l.at-counter end (written l.script)) l.at-counter l.sames l.provider l.slots
+          (between l.fn.range.start end (written l.script)) l.fn.range.start l.initial.provider l.initial.slots;
+    }
