@@ -97,25 +97,33 @@ module _ {S X : Type 0} (f : Algebra X) (m : S → Meaning X) where
     two_stop t u t' u' s slots a s₁ slots₁ x s₂ slots₂ e d h k =
         tasks_then (t ∷ []) (u ∷ []) s slots a s₁ slots₁ (Err x) s₂ slots₂ (one_done t' t s slots a s₁ slots₁ e h) (one_stop u' u s₁ slots₁ x s₂ slots₂ d k)
 
-    -- what does the tasks us, n comparisons being counted, does the whole from its beginning
-    abbrev pub Rest : List Task → ℕ → S → List ℕ → List Task → S → List ℕ → Type 0
-    Rest us n s slots all s₀ slots₀ = (r : Result ℕ RunFault) (s' : S) (slots' : List ℕ) → Doing us s slots r s' slots' → Doing all s₀ slots₀ (plus n r) s' slots'
+-- what does the tasks us, n comparisons being counted, does the whole from its beginning
+pub record Rest {S X : Type 0} (f : Algebra X) (m : S → Meaning X) (ts : List TermNode) (ps : List (List Line)) (readings : List ℕ) (us : List Task) (n : ℕ) (s : S) (slots : List ℕ)
+    (all : List Task) (s₀ : S) (slots₀ : List ℕ) : Type 0 where
+  pub does : (r : Result ℕ RunFault) (s' : S) (slots' : List ℕ) → Tasks f m ts ps readings us s slots r s' slots' → Tasks f m ts ps readings all s₀ slots₀ (plus n r) s' slots'
 
-    pub rest_all : (all us : List Task) (s : S) (slots : List ℕ) → us ≡ all → Rest us 0 s slots all s slots
-    rest_all all us s slots e r s' slots' w = rw (plus_zero r) (subst (λ (x : List Task). Doing x s slots r s' slots') e w)
+pub rest_all : {S X : Type 0} (f : Algebra X) (m : S → Meaning X) (ts : List TermNode) (ps : List (List Line)) (readings : List ℕ) (us all : List Task) (s : S) (slots : List ℕ) → us ≡ all
+    → Rest f m ts ps readings us 0 s slots all s slots
+rest_all f m ts ps readings us all s slots e = record { does = λ r s' slots' w. rw (plus_zero r) (subst (λ (x : List Task). Tasks f m ts ps readings x s slots r s' slots') e w) }
 
-    module _ (all : List Task) (s₀ : S) (slots₀ : List ℕ) (ks us vs : List Task) (n : ℕ) (s : S) (slots : List ℕ) (e : vs ≡ ks ++ us) (rest : Rest vs n s slots all s₀ slots₀) where
-      -- the tasks ks come next
-      pub rest_more : (a : ℕ) (s₁ : S) (slots₁ : List ℕ) → Doing ks s slots (Ok a) s₁ slots₁ → Rest us (n + a) s₁ slots₁ all s₀ slots₀
-      rest_more a s₁ slots₁ h r s' slots' w =
-          rw (sym (plus_plus n a r)) (rest (plus a r) s' slots' (subst (λ (x : List Task). Doing x s slots (plus a r) s' slots') (sym e) (tasks_then ks us s slots a s₁ slots₁ r s' slots' h w)))
+module _ {S X : Type 0} {f : Algebra X} {m : S → Meaning X} {ts : List TermNode} {ps : List (List Line)} {readings : List ℕ} {vs : List Task} {n : ℕ} {s : S} {slots : List ℕ}
+    {all : List Task} {s₀ : S} {slots₀ : List ℕ} (rest : Rest f m ts ps readings vs n s slots all s₀ slots₀) where
+  -- the tasks ks come next
+  module _ (ks us : List Task) (e : vs ≡ ks ++ us) where
+    pub rest_more : (a : ℕ) (s₁ : S) (slots₁ : List ℕ) → Tasks f m ts ps readings ks s slots (Ok a) s₁ slots₁ → Rest f m ts ps readings us (n + a) s₁ slots₁ all s₀ slots₀
+    rest_more a s₁ slots₁ h =
+        record {
+          does = λ r s' slots' w. rw (sym (plus_plus n a r))
+              (rest.does (plus a r) s' slots' (subst (λ (x : List Task). Tasks f m ts ps readings x s slots (plus a r) s' slots') (sym e) (tasks_then f m ts ps readings ks us s slots a s₁ slots₁ r s' slots' h w)));
+        }
 
-      pub rest_stop : (x : RunFault) (s₁ : S) (slots₁ : List ℕ) → Doing ks s slots (Err x) s₁ slots₁ → Doing all s₀ slots₀ (Err x) s₁ slots₁
-      rest_stop x s₁ slots₁ h = rest (Err x) s₁ slots₁ (subst (λ (y : List Task). Doing y s slots (Err x) s₁ slots₁) (sym e) (tasks_stop ks us s slots x s₁ slots₁ h))
+    pub rest_stop : (x : RunFault) (s₁ : S) (slots₁ : List ℕ) → Tasks f m ts ps readings ks s slots (Err x) s₁ slots₁ → Tasks f m ts ps readings all s₀ slots₀ (Err x) s₁ slots₁
+    rest_stop x s₁ slots₁ h = rest.does (Err x) s₁ slots₁ (subst (λ (y : List Task). Tasks f m ts ps readings y s slots (Err x) s₁ slots₁) (sym e) (tasks_stop f m ts ps readings ks us s slots x s₁ slots₁ h))
 
-    pub rest_end : (all : List Task) (s₀ : S) (slots₀ : List ℕ) (us : List Task) (n : ℕ) (s : S) (slots : List ℕ) → us ≡ [] → Rest us n s slots all s₀ slots₀ → Doing all s₀ slots₀ (Ok n) s slots
-    rest_end all s₀ slots₀ us n s slots e rest =
-        subst (λ (k : ℕ). Doing all s₀ slots₀ (Ok k) s slots) (add-zero n) (rest (Ok 0) s slots (subst (λ (x : List Task). Doing x s slots (Ok 0) s slots) (sym e) (refl, refl, refl)))
+  pub rest_end : vs ≡ [] → Tasks f m ts ps readings all s₀ slots₀ (Ok n) s slots
+  rest_end e =
+      subst (λ (k : ℕ). Tasks f m ts ps readings all s₀ slots₀ (Ok k) s slots) (add-zero n)
+      (rest.does (Ok 0) s slots (subst (λ (x : List Task). Tasks f m ts ps readings x s slots (Ok 0) s slots) (sym e) (refl, refl, refl)))
 
 -- the starts of the parties from p on
 pub starts_more : (st : State) (n p : ℕ) → p < n → starts_from st p (n - p) ≡ (start_task st p ∷ []) ++ starts_from st (p + 1) (n - (p + 1))

@@ -1,5 +1,6 @@
 -- A party's next step is the one of the lowest number.
 use Rattle.std.proofs.Common.{◌≡◌, ℕ, zero, suc, ◌+◌, ◌-◌, ◌<◌, ◌≤◌, Bool, true, false, cond, ltb, ◌⊎◌, List, [], ◌∷◌, drop, Some, None, Option, MatchOption, length, sym, refl, ap, ◌∙◌, subst, inl, inr, arith, ltb-false, ltb-true}
+use Rattle.std.proofs.lemmas.Bool.{cases_order}
 use Rattle.rules.specs.State.{nth}
 use Rattle.rules.proofs.Nth.{some_is, nth_below}
 use Rattle.acting.proofs.Lines.{nth_drop}
@@ -29,14 +30,6 @@ first_is (y ∷ ys) n p = go (takes_part y p) refl (first_of ys (n + 1) p) (firs
         below zero z l q = subst (λ u. takes_part u p ≡ false) (some_is q) e
         below (suc j) z l q = f.4 j z (omega arith) q
 
-compare_of : (a b : ℕ) → (a < b) ⊎ ((a ≡ b) ⊎ (b < a))
-compare_of a b = go (ltb a b) (ltb b a) refl refl
-  where
-    go : (u v : Bool) → ltb a b ≡ u → ltb b a ≡ v → (a < b) ⊎ ((a ≡ b) ⊎ (b < a))
-    go true v e f = inl (ltb-true a b e)
-    go false true e f = inr (inr (ltb-true b a f))
-    go false false e f = inr (inl (omega (arith, ltb-false a b e, ltb-false b a f)))
-
 both : (b : Bool) → b ≡ true → b ≡ false → ⊥
 both b t f = cc
 
@@ -63,11 +56,11 @@ module _ (xs : List Step) (n p : ℕ) where
   next_at k x w = go (next_of xs n p) refl
     where
       same : (k' : ℕ) (x' : Step) → IsNext xs n p k' x' → k' ≡ k
-      same k' x' v = by_order (compare_of k' k)
+      same k' x' v = by_order (cases_order k' k)
         where
-          by_order : ((k' < k) ⊎ ((k' ≡ k) ⊎ (k < k'))) → k' ≡ k
-          by_order (inl l) = absurd (both (takes_part x' p) v.part (w.lowest k' x' v.later l v.there))
-          by_order (inr (inl e)) = e
+          by_order : (k' ≡ k) ⊎ ((k' < k) ⊎ (k < k')) → k' ≡ k
+          by_order (inl e) = e
+          by_order (inr (inl l)) = absurd (both (takes_part x' p) v.part (w.lowest k' x' v.later l v.there))
           by_order (inr (inr l)) = absurd (both (takes_part x p) w.part (v.lowest k x w.later l w.there))
 
       go : (o : Option (ℕ × Step)) → o ≡ next_of xs n p → next_of xs n p ≡ Some (k, x)

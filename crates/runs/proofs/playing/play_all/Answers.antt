@@ -1,9 +1,8 @@
-use Rattle.std.proofs.Common.{length, Ok, Err}
+use Rattle.std.proofs.Common.{Ok, Err}
 use Rattle.std.proofs.lemmas.Result.{err_from_is_err_and}
 use Rattle.terms.specs.Listed.{listed}
-use Rattle.protocol.specs.View.{lines_of, steps_of}
-use Rattle.protocol.specs.Whole.{view_of}
-use Rattle.runs.specs.Tasks.{start_tasks, step_tasks}
+use Rattle.protocol.specs.View.{lines_of}
+use Rattle.runs.specs.Whole.{starts_of, steps_tasks_of}
 use Rattle.runs.proofs.Rests.{tasks_then, tasks_stop}
 use Rattle.runs.proofs.playing.play_all.Goals as goal
 
@@ -14,7 +13,7 @@ returns-in_err-started g c =
     let k = a.protocol.now.content in
     let q = err_from_is_err_and c.from_residual.result c.from_residual.ensures.1 in
     rw (q.1, q.2)
-    (tasks_stop p.algebra p.meaning (listed k.terms) (lines_of k) a.readings.now (start_tasks (view_of a.protocol.now) (length (lines_of k))) (step_tasks (view_of a.protocol.now) 0 (steps_of k))
+    (tasks_stop p.algebra p.meaning (listed k.terms) (lines_of k) a.readings.now (starts_of a.protocol.now) (steps_tasks_of a.protocol.now)
     a.provider.now a.slots.now c.in_err-started.field-0.0 c.start_parties.new.provider c.start_parties.new.slots c.in_err-started.ensures.whole)
 
 pub returns-in_err-played : goal.returns-in_err-played
@@ -24,7 +23,7 @@ returns-in_err-played g c =
     let k = a.protocol.now.content in
     let q = err_from_is_err_and c.from_residual-in_err-played.result c.from_residual-in_err-played.ensures.1 in
     rw (q.1, q.2)
-    (tasks_then p.algebra p.meaning (listed k.terms) (lines_of k) a.readings.now (start_tasks (view_of a.protocol.now) (length (lines_of k))) (step_tasks (view_of a.protocol.now) 0 (steps_of k))
+    (tasks_then p.algebra p.meaning (listed k.terms) (lines_of k) a.readings.now (starts_of a.protocol.now) (steps_tasks_of a.protocol.now)
     a.provider.now a.slots.now c.in_ok-started.started c.start_parties.new.provider c.start_parties.new.slots
     (Err c.in_err-played.field-0.0) c.play_steps.new.provider c.play_steps.new.slots c.in_ok-started.ensures.whole c.in_err-played.ensures.whole)
 
@@ -33,6 +32,6 @@ returns g c =
     let p = g.P.Provider in
     let a = c.args in
     let k = a.protocol.now.content in
-    tasks_then p.algebra p.meaning (listed k.terms) (lines_of k) a.readings.now (start_tasks (view_of a.protocol.now) (length (lines_of k))) (step_tasks (view_of a.protocol.now) 0 (steps_of k))
+    tasks_then p.algebra p.meaning (listed k.terms) (lines_of k) a.readings.now (starts_of a.protocol.now) (steps_tasks_of a.protocol.now)
     a.provider.now a.slots.now c.in_ok-started.started c.start_parties.new.provider c.start_parties.new.slots
     (Ok c.in_ok-played.played) c.play_steps.new.provider c.play_steps.new.slots c.in_ok-started.ensures.whole c.in_ok-played.ensures.whole

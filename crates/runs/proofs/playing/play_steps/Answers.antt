@@ -6,6 +6,7 @@ use Rattle.protocol.specs.Whole.{view_of}
 use Rattle.protocol.proofs.Holding.{sound}
 use Rattle.protocol.proofs.Reading.{steps_length}
 use Rattle.runs.specs.Tasks.{both_tasks, step_tasks}
+use Rattle.runs.specs.Whole.{steps_tasks_of}
 use Rattle.runs.proofs.Rests.{rest_all, rest_more, rest_stop, rest_end, steps_more, steps_none, steps_end}
 use Rattle.runs.proofs.playing.play_steps.Goals as goal
 
@@ -13,35 +14,27 @@ pub loop-number-init : goal.loop-number-init
 loop-number-init g c =
     let p = g.P.Provider in
     let a = c.args in
-    let st = view_of a.protocol.now in
     let k = a.protocol.now.content in
-    (omega arith, rest_all p.algebra p.meaning (listed k.terms) (lines_of k) a.readings.now (step_tasks st 0 (steps_of k)) (step_tasks st 0 (steps_of k)) a.provider.now a.slots.now refl)
+    let all = steps_tasks_of a.protocol.now in
+    record { few = omega arith; rest = rest_all p.algebra p.meaning (listed k.terms) (lines_of k) a.readings.now all all a.provider.now a.slots.now refl }
 
 pub returns-in_default : goal.returns-in_default
 returns-in_default g c =
-    let p = g.P.Provider in
-    let a = c.args in
-    let st = view_of a.protocol.now in
-    let k = a.protocol.now.content in
-    let i = c.loop-number.number in
+    let k = c.args.protocol.now.content in
     record {
-      whole = rest_end p.algebra p.meaning (listed k.terms) (lines_of k) a.readings.now (step_tasks st 0 (steps_of k)) a.provider.now a.slots.now (step_tasks st i (drop i (steps_of k)))
-          c.loop-number.sames c.loop-number.provider c.loop-number.slots (steps_none st (steps_of k) i c.step.result c.step.ensures c.in_default.is) c.loop-number.invariant.1;
-      few = omega (arith, c.loop-number.invariant.0, c.loop-number-test.true, c.steps-number-end.ensures, steps_length k (sound a.protocol.now), a.protocol.now.steps_few);
+      whole = rest_end c.loop-number.invariant.rest (steps_none (view_of c.args.protocol.now) (steps_of k) c.loop-number.number c.step.result c.step.ensures c.in_default.is);
+      few = omega (arith, c.loop-number.invariant.few, c.loop-number-test.true, c.steps-number-end.ensures, steps_length k (sound c.args.protocol.now), c.args.protocol.now.steps_few);
     }
 
 pub returns-in_err-sames : goal.returns-in_err-sames
 returns-in_err-sames g c =
-    let p = g.P.Provider in
-    let a = c.args in
-    let st = view_of a.protocol.now in
-    let k = a.protocol.now.content in
+    let st = view_of c.args.protocol.now in
+    let ss = steps_of c.args.protocol.now.content in
     let i = c.loop-number.number in
     let x = c.in-Some.step in
     let q = err_from_is_err_and c.from_residual.result c.from_residual.ensures.1 in
     rw (q.1, q.2) (record {
-      whole = rest_stop p.algebra p.meaning (listed k.terms) (lines_of k) a.readings.now (step_tasks st 0 (steps_of k)) a.provider.now a.slots.now (both_tasks st i x) (step_tasks st (i + 1) (drop (i + 1) (steps_of k))) (step_tasks st i (drop i (steps_of k)))
-          c.loop-number.sames c.loop-number.provider c.loop-number.slots (steps_more st (steps_of k) i x c.step.result c.step.ensures c.in-Some.is) c.loop-number.invariant.1
+      whole = rest_stop c.loop-number.invariant.rest (both_tasks st i x) (step_tasks st (i + 1) (drop (i + 1) ss)) (steps_more st ss i x c.step.result c.step.ensures c.in-Some.is)
           c.in_err-sames.field-0.0 c.play_step.new.provider c.play_step.new.slots c.in_err-sames.ensures.whole;
       few = tt;
     })
@@ -50,33 +43,27 @@ pub overflow_add-sames : goal.overflow_add-sames
 overflow_add-sames g c =
     let k = c.args.protocol.now.content in
     let h : c.loop-number.sames + c.in_ok-sames.field-0 ≤ 100000 =
-    omega (arith, c.loop-number.invariant.0, c.in_ok-sames.ensures.few, c.loop-number-test.true, c.steps-number-end.ensures, steps_length k (sound c.args.protocol.now), c.args.protocol.now.steps_few) in
+    omega (arith, c.loop-number.invariant.few, c.in_ok-sames.ensures.few, c.loop-number-test.true, c.steps-number-end.ensures, steps_length k (sound c.args.protocol.now), c.args.protocol.now.steps_few) in
     search rules
 
 pub loop-number-preserved : goal.loop-number-preserved
 loop-number-preserved g c =
-    let p = g.P.Provider in
-    let a = c.args in
-    let st = view_of a.protocol.now in
-    let k = a.protocol.now.content in
+    let st = view_of c.args.protocol.now in
+    let ss = steps_of c.args.protocol.now.content in
     let i = c.loop-number.number in
-    let x = c.in-Some.step in (
-      omega (arith, c.loop-number.invariant.0, c.in_ok-sames.ensures.few),
-      rest_more p.algebra p.meaning (listed k.terms) (lines_of k) a.readings.now (step_tasks st 0 (steps_of k)) a.provider.now a.slots.now (both_tasks st i x) (step_tasks st (i + 1) (drop (i + 1) (steps_of k))) (step_tasks st i (drop i (steps_of k)))
-          c.loop-number.sames c.loop-number.provider c.loop-number.slots (steps_more st (steps_of k) i x c.step.result c.step.ensures c.in-Some.is) c.loop-number.invariant.1
-          c.in_ok-sames.field-0 c.play_step.new.provider c.play_step.new.slots c.in_ok-sames.ensures.whole,
-    )
+    let x = c.in-Some.step in
+    record {
+      few = omega (arith, c.loop-number.invariant.few, c.in_ok-sames.ensures.few);
+      rest = rest_more c.loop-number.invariant.rest (both_tasks st i x) (step_tasks st (i + 1) (drop (i + 1) ss)) (steps_more st ss i x c.step.result c.step.ensures c.in-Some.is)
+          c.in_ok-sames.field-0 c.play_step.new.provider c.play_step.new.slots c.in_ok-sames.ensures.whole;
+    }
 
 pub returns : goal.returns
 returns g c =
-    let p = g.P.Provider in
-    let a = c.args in
-    let st = view_of a.protocol.now in
-    let k = a.protocol.now.content in
+    let k = c.args.protocol.now.content in
     let i = c.loop-number.number in
     let past : length (steps_of k) ≤ i = omega (arith, c.loop-number-test.false, c.steps-number-end.ensures) in
     record {
-      whole = rest_end p.algebra p.meaning (listed k.terms) (lines_of k) a.readings.now (step_tasks st 0 (steps_of k)) a.provider.now a.slots.now (step_tasks st i (drop i (steps_of k)))
-          c.loop-number.sames c.loop-number.provider c.loop-number.slots (steps_end st (steps_of k) i past) c.loop-number.invariant.1;
-      few = omega (arith, c.loop-number.invariant.0, c.loop-number.auto.number-end, c.steps-number-end.ensures, steps_length k (sound a.protocol.now), a.protocol.now.steps_few);
+      whole = rest_end c.loop-number.invariant.rest (steps_end (view_of c.args.protocol.now) (steps_of k) i past);
+      few = omega (arith, c.loop-number.invariant.few, c.loop-number.auto.number-end, c.steps-number-end.ensures, steps_length k (sound c.args.protocol.now), c.args.protocol.now.steps_few);
     }
