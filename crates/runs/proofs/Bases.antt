@@ -1,13 +1,17 @@
 -- Where the parties' slots begin and end.
-use Rattle.std.proofs.Common.{◌≡◌, ℕ, zero, suc, ◌+◌, ◌<◌, ◌≤◌, min, ◌⊎◌, List, [], length, get_or, Some, None, Option, MatchOption, sym, refl, ap, ◌∙◌, inl, inr, add-one, arith}
+use Rattle.std.proofs.Common.{◌≡◌, ℕ, zero, suc, ◌+◌, ◌<◌, ◌≤◌, min, ◌⊎◌, List, [], length, get_or, map, take, length-take, ◌*◌, ◌∷◌, Some, None, Option, MatchOption, sym, refl, ap, ◌∙◌, inl, inr, add-one, zero-add, arith}
 use Rattle.std.proofs.lemmas.List.{get_or_past}
 use Rattle.std.proofs.lemmas.Bool.{cases_lt}
+use Rattle.std.proofs.lemmas.List.Sums.{sum_by-cons}
+use Rattle.std.specs.List.{range_with_len, sum_by}
 use Rattle.std.specs.Borrow.{Bor}
 use Rattle.scripts.specs.declared.instruction.Line.{Line}
 use Rattle.scripts.specs.declared.script.Script.{Script}
 use Rattle.scripts.specs.View.{written}
 use Rattle.rules.specs.State.{nth}
 use Rattle.rules.proofs.Nth.{some_is, nth_at, nth_below}
+use Rattle.protocol.specs.declared.content.Content.{Content}
+use Rattle.protocol.specs.View.{lines_of}
 use Rattle.protocol.specs.Reading.{ShowsScript}
 use Rattle.runs.specs.Memory.{lines_at, own_slots, base_of}
 
@@ -51,9 +55,32 @@ base_min_by ps p q e (inr l) = base_past ps q p (omega arith) (omega arith)
 pub base_min : (ps : List (List Line)) (p n q : ℕ) → n ≡ length ps → q ≡ min p n → base_of ps q ≡ base_of ps p
 base_min ps p n q a b = let e : q ≡ min p (length ps) = omega arith in base_min_by ps p q e (cases_lt p (length ps))
 
--- one party more
-pub base_next : (ps : List (List Line)) (p : ℕ) → base_of ps (p + 1) ≡ base_of ps p + own_slots ps p
-base_next ps p = rw add-one refl
+sum_from : (ps : List (List Line)) (k n : ℕ) → base_of ps k + sum_by (own_slots ps) (range_with_len k n) ≡ base_of ps (k + n)
+sum_from ps k zero = let z : k + 0 ≡ k = omega arith in rw z (omega arith)
+sum_from ps k (suc n) =
+    let h = sum_from ps (k + 1) n in
+    let c : sum_by (own_slots ps) (range_with_len k (suc n)) ≡ own_slots ps k + sum_by (own_slots ps) (range_with_len (k + 1) n) = sum_by-cons (own_slots ps) k (range_with_len (k + 1) n) in
+    let z : k + suc n ≡ (k + 1) + n = omega arith in
+    let b : base_of ps (k + 1) ≡ base_of ps k + own_slots ps k = rw add-one refl in
+    rw z (omega arith)
+
+-- the slots of the parties before one, summed
+pub base_sum : (ps : List (List Line)) (n : ℕ) → sum_by (own_slots ps) (range_with_len 0 n) ≡ base_of ps n
+base_sum ps n = sym (zero-add (sum_by (own_slots ps) (range_with_len 0 n))) ∙ sum_from ps 0 n ∙ ap (base_of ps) (zero-add n)
+
+few_lines : (ss : List Script) (n p : ℕ) → length (get_or (take n (map written ss)) p []) ≤ 512
+few_lines ss zero p = omega arith
+few_lines [] (suc n) p = omega arith
+few_lines (s ∷ ss) (suc n) zero = let few = s.few in omega (arith, length-take s.len s.lines)
+few_lines (s ∷ ss) (suc n) (suc p) = few_lines ss n p
+
+few_slots : (c : Content) (p : ℕ) → own_slots (lines_of c) p ≤ 512
+few_slots c zero = omega arith
+few_slots c (suc p) = few_lines c.scripts c.agents (suc p)
+
+pub base_few : (c : Content) (n : ℕ) → base_of (lines_of c) n ≤ 512 * n
+base_few c zero = omega arith
+base_few c (suc n) = let h = base_few c n in let k = few_slots c n in omega arith
 
 base_above_by : (ps : List (List Line)) (p q : ℕ) → p < suc q → (p < q → base_of ps p + own_slots ps p ≤ base_of ps q) → (p < q) ⊎ (q ≤ p) → base_of ps p + own_slots ps p ≤ base_of ps (suc q)
 base_above_by ps p q l f (inl k) = let h = f k in omega arith

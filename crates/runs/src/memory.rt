@@ -24,11 +24,9 @@ fn own_slots(protocol: &Protocol, agent: Agent) -> usize
 pub(crate) fn base_of(protocol: &Protocol, party: Agent) -> usize
     ensures { result ≡ base_of (lines_of protocol.now.content) party }
 {
-    let mut base = 0;
-    for earlier in 0..party.min(protocol.agents()) {
-        base += own_slots(protocol, earlier);
-    }
-    base
+    (0..party.min(protocol.agents()))
+        .map(|earlier| own_slots(protocol, earlier))
+        .sum()
 }
 
 // Whether there is a reading for every term, and a slot for every instruction of the parties.
