@@ -112,12 +112,8 @@ impl<'a> Rehearsal<'a> {
 
     // How many slots the parties before this one have.
     fn slots_before(&self, agent: Agent) -> usize {
-        let mut base = 0usize;
-        for earlier in 1..agent {
-            if let Some(script) = self.protocol.script(earlier) {
-                base = base.saturating_add(script.len());
-            }
-        }
-        base
+        (1..agent)
+            .filter_map(|earlier| self.protocol.script(earlier))
+            .fold(0, |base: usize, script| base.saturating_add(script.len()))
     }
 }
