@@ -36,7 +36,7 @@ fn carry<P: Provider>(
 }
 
 // Carries out the instructions of a script in a range, on the slots from base on, and answers how many comparisons were done. It ends
-// early where the script or the slots end.
+// early where the script or the slots end. The slots are lent whole, since what is said of runs names them by their places in the row.
 pub fn carry_out<P: Provider>(
     provider: &mut P,
     readings: &[Handle],

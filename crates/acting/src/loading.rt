@@ -52,7 +52,7 @@ fn make<P: Provider>(
     }
 }
 
-// The loop over the terms.
+// The loop over the terms: by number, since making a term reads the readings before its own.
 fn load_terms<P: Provider>(
     provider: &mut P,
     terms: &Terms<512>,

@@ -23,12 +23,16 @@ use Rattle.runs.specs.Memory.{lines_at, base_of}
 abbrev pub start_task : State → ℕ → Task
 start_task st p = record { step = 64; party = p; start = 0; end = initial st p; role = Start }
 
+-- what a party does in the step of this number up to a place
+abbrev pub task_in : State → ℕ → ℕ → ℕ → Role → Task
+task_in st l p end role = record { step = l; party = p; start = begin st l p; end = end; role = role }
+
 -- what the sender does in the step of this number, and what the receiver does
 abbrev pub send_task : State → ℕ → Step → Task
-send_task st l x = record { step = l; party = x.sender; start = begin st l x.sender; end = x.sent; role = Send }
+send_task st l x = task_in st l x.sender x.sent Send
 
 abbrev pub receive_task : State → ℕ → Step → Task
-receive_task st l x = record { step = l; party = x.receiver; start = begin st l x.receiver; end = x.received; role = Receive x.sender x.sent }
+receive_task st l x = task_in st l x.receiver x.received (Receive x.sender x.sent)
 
 abbrev pub both_tasks : State → ℕ → Step → List Task
 both_tasks st l x = send_task st l x ∷ receive_task st l x ∷ []

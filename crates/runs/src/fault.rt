@@ -5,7 +5,7 @@ ghost use Rattle.runs.specs.Runs.{early_fault};
 use acting::SessionRefusal;
 use protocol::LISTENER;
 
-// The number by which what precedes the first step is known.
+// The number by which what precedes the first step is known; it is laid down.
 pub(crate) const BEFORE_STEPS: usize = 64;
 
 // How many steps were played, and how many comparisons were done.

@@ -1,4 +1,5 @@
-// Whole runs.
+// Whole runs. The protocol, the provider, the readings and the slots are lent one by one: in a struct, each method would have to say
+// that the protocol and the readings stay.
 ghost use Rattle.std.specs.Prelude.{◌++◌, ◌≤◌, IfOk};
 ghost use Rattle.protocol.specs.Whole.{view_of};
 ghost use Rattle.runs.specs.Tasks.{both_tasks};

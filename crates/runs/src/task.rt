@@ -3,7 +3,7 @@ ghost use Rattle.std.specs.Prelude.{◌≡◌, ◌+◌, ◌-◌, ◌≤◌, IfOk
 ghost use Rattle.protocol.specs.View.{lines_of};
 ghost use Rattle.protocol.specs.Whole.{view_of};
 ghost use Rattle.runs.specs.Memory.{base_of};
-ghost use Rattle.runs.specs.Tasks.{Hands, Handles, start_task, send_task, receive_task, outcome_of};
+ghost use Rattle.runs.specs.Tasks.{Hands, Handles, start_task, task_in, send_task, receive_task, outcome_of};
 ghost use Rattle.runs.specs.Whole.{DoesOf};
 ghost use Rattle.terms.specs.Listed.{listed};
 
@@ -46,33 +46,35 @@ impl Task {
         }
     }
 
+    // What a party does in a step up to a place.
+    fn in_step(protocol: &Protocol, number: usize, party: Agent, end: usize, role: Role) -> Task
+        ensures { result ≡ task_in (view_of protocol.now) number party end role }
+    {
+        Task {
+            step: number,
+            party,
+            start: protocol.begin(number, party),
+            end,
+            role,
+        }
+    }
+
     // What the sender does in a step.
     pub(crate) fn send(protocol: &Protocol, number: usize, step: Step) -> Task
         ensures { result ≡ send_task (view_of protocol.now) number step }
     {
-        Task {
-            step: number,
-            party: step.sender,
-            start: protocol.begin(number, step.sender),
-            end: step.sent,
-            role: Role::Send,
-        }
+        Task::in_step(protocol, number, step.sender, step.sent, Role::Send)
     }
 
     // What the receiver does in a step.
     pub(crate) fn receive(protocol: &Protocol, number: usize, step: Step) -> Task
         ensures { result ≡ receive_task (view_of protocol.now) number step }
     {
-        Task {
-            step: number,
-            party: step.receiver,
-            start: protocol.begin(number, step.receiver),
-            end: step.received,
-            role: Role::Receive {
-                sender: step.sender,
-                sent: step.sent,
-            },
-        }
+        let role = Role::Receive {
+            sender: step.sender,
+            sent: step.sent,
+        };
+        Task::in_step(protocol, number, step.receiver, step.received, role)
     }
 
     // What comes of it, from what came of its part of the script.
