@@ -9,21 +9,7 @@ ghost use Rattle.terms.specs.Listed.{listed};
 use crate::halt::Halt;
 use crate::instruction::reading;
 use provider::{Handle, Provider, ProviderError};
-use terms::{Form, Kind, TermId, TermNode, Terms};
-
-// The number of a kind.
-fn kind_number(kind: Kind) -> usize
-    ensures { result ≡ kind_number kind }
-{
-    match kind {
-        Kind::Party => 0,
-        Kind::Number => 1,
-        Kind::Shared => 2,
-        Kind::Public => 3,
-        Kind::Table => 4,
-        Kind::Function => 5,
-    }
-}
+use terms::{Form, TermId, TermNode, Terms};
 
 // Makes a term from the handles of its parts; a name is the atom of its kind and of the term's own number.
 fn make<P: Provider>(
@@ -35,7 +21,7 @@ fn make<P: Provider>(
     ensures { Acts P.algebra P.meaning (node_act readings.now term node) provider.old result provider.new }
 {
     match node {
-        TermNode::Name(kind, _) => provider.atom(kind_number(kind), term),
+        TermNode::Name(kind, _) => provider.atom(usize::from(kind), term),
         TermNode::Built(Form::Pair, left, right) => {
             provider.join(reading(readings, left), reading(readings, right))
         }

@@ -9,7 +9,7 @@ use Rattle.protocol.specs.declared.call.Call.{Call}
 use Rattle.protocol.specs.declared.call.Answer.{Answer}
 use Rattle.protocol.specs.declared.protocol.Protocol.{Protocol}
 use Rattle.protocol.specs.Outcome.{call_of, Performed}
-use Rattle.protocol.specs.Whole.{view_of}
+use Rattle.protocol.specs.View.{view_of}
 use Rattle.compiled.specs.Histories.{told_by, history_after, history_of, AllRight, Performs}
 use Rattle.compiled.proofs.Telling.{told_is}
 

@@ -25,10 +25,10 @@ pub record Completed {S X : Type 0} (f : Algebra X) (m : S → Meaning X) (calls
     (p' : Protocol) (answers' : List Answer) (s' : S) (readings' slots' : List ℕ) : Type 0 where
   pub answered : length calls ≤ length answers
   pub performs : Performs calls answers p' answers'
-  pub ran : Ran f m (listed p'.content.terms) (lines_of p'.content) (steps_of p'.content) s readings slots r s' readings' slots'
+  pub ran : Ran f m (listed p'.terms) (lines_of p') (steps_of p') s readings slots r s' readings' slots'
   pub right :
-      Enough (listed p'.content.terms) (lines_of p'.content) readings slots
-      → RanRight f m (history_of calls (take (length calls) answers')) (listed p'.content.terms) (lines_of p'.content) (steps_of p'.content) r s' readings' slots'
+      Enough (listed p'.terms) (lines_of p') readings slots
+      → RanRight f m (history_of calls (take (length calls) answers')) (listed p'.terms) (lines_of p') (steps_of p') r s' readings' slots'
 
 -- with fewer answers lent than calls nothing is altered
 pub record Unanswered {S : Type 0} (calls : List Call) (p : Protocol) (answers : List Answer) (s : S) (readings slots : List ℕ) (r : Result Played RunFault)

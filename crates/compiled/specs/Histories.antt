@@ -12,7 +12,7 @@ use Rattle.protocol.specs.declared.call.Answer.TheVariants.{Number, Done, Said, 
 use Rattle.protocol.specs.declared.protocol.Protocol.{Protocol}
 use Rattle.protocol.specs.declared.refusal.Refusal.{Refusal}
 use Rattle.protocol.specs.declared.refusal.Refusal.TheVariants.{Unknown, WrongKind, NoRoom, EighthParty, TooLate, NoTwoParties, LastStep, NoAddress, Unmakeable, ScriptFull}
-use Rattle.protocol.specs.Whole.{view_of}
+use Rattle.protocol.specs.View.{view_of}
 
 -- a refusal as the rules have it
 abbrev pub rule_refusal : Refusal → RuleRefusal

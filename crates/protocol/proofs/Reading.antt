@@ -2,7 +2,7 @@
 use Rattle.std.proofs.Common.{◌≡◌, ℕ, zero, suc, ◌<◌, ◌≤◌, List, [], ◌∷◌, map, length, get_or, Some, None, sym, refl, ap, ◌∙◌, arith}
 use Rattle.std.specs.Prelude.{slice_get, slice_index_or}
 use Rattle.std.proofs.lemmas.Option.{slice_get_read}
-use Rattle.std.proofs.lemmas.List.{length-map}
+use Rattle.std.proofs.lemmas.List.{length-map, length-take}
 use Rattle.bounded.specs.Items.{items}
 use Rattle.terms.specs.Listed.{listed}
 use Rattle.terms.specs.Tree.{tree}
@@ -61,3 +61,10 @@ module _ (c : Protocol) (xs : List Step) (is : xs ≡ items c.steps) where
 
   pub steps_read : (n : ℕ) → length xs ≤ n → length (steps_of c) ≤ n
   steps_read n l = omega (arith, l, ap length is)
+
+-- how many agents and steps there are at the most
+pub agents_few : (c : Protocol) → length (lines_of c) ≤ 8
+agents_few c = omega (arith, length-map (items c.scripts) written, length-take c.scripts.len c.scripts.cells, c.scripts.few)
+
+pub steps_few : (c : Protocol) → length (steps_of c) ≤ 64
+steps_few c = omega (arith, length-take c.steps.len c.steps.cells, c.steps.few)

@@ -10,7 +10,7 @@ use Rattle.scripts.specs.declared.script.Script.{Script}
 use Rattle.scripts.specs.View.{written}
 use Rattle.rules.specs.State.{nth}
 use Rattle.rules.proofs.Nth.{some_is, nth_at, nth_below}
-use Rattle.protocol.specs.declared.content.Content.{Content}
+use Rattle.protocol.specs.declared.protocol.{Protocol}
 use Rattle.protocol.specs.View.{lines_of}
 use Rattle.protocol.specs.Reading.{ShowsScript}
 use Rattle.runs.specs.Memory.{lines_at, own_slots, base_of}
@@ -74,11 +74,11 @@ few_lines [] (suc n) p = omega arith
 few_lines (s ∷ ss) (suc n) zero = let few = s.few in omega (arith, length-take s.len s.lines)
 few_lines (s ∷ ss) (suc n) (suc p) = few_lines ss n p
 
-few_slots : (c : Content) (p : ℕ) → own_slots (lines_of c) p ≤ 512
+few_slots : (c : Protocol) (p : ℕ) → own_slots (lines_of c) p ≤ 512
 few_slots c zero = omega arith
 few_slots c (suc p) = few_lines c.scripts c.agents (suc p)
 
-pub base_few : (c : Content) (n : ℕ) → base_of (lines_of c) n ≤ 512 * n
+pub base_few : (c : Protocol) (n : ℕ) → base_of (lines_of c) n ≤ 512 * n
 base_few c zero = omega arith
 base_few c (suc n) = let h = base_few c n in let k = few_slots c n in omega arith
 

@@ -12,7 +12,7 @@ use Rattle.parts.specs.Sames.{is_same, sames, sames_in as samesOfScripts, sames_
 use Rattle.acting.specs.Carrying.{tally, between}
 use Rattle.acting.specs.Standing.{comparisons}
 use Rattle.protocol.specs.declared.step.Step.{Step}
-use Rattle.protocol.specs.View.{state_by}
+use Rattle.protocol.specs.States.{state_by}
 use Rattle.runs.specs.declared.task.Task.{Task}
 use Rattle.runs.specs.Memory.{lines_at}
 use Rattle.runs.proofs.Standing.{after, after_all, after_own, after_other, AllFit, sames_in}

@@ -17,7 +17,7 @@ use Rattle.acting.specs.Carrying.{line_act, between, CarriedOut}
 use Rattle.acting.specs.Refusals.{halt_refusal}
 use Rattle.acting.specs.Standing.{Loaded, NoRoom, KeptOutside, Ready, comparisons}
 use Rattle.acting.proofs.Parts.{loaded_kept, standing_kept, part_stands, part_keeps}
-use Rattle.protocol.specs.View.{trees}
+use Rattle.protocol.specs.States.{trees}
 use Rattle.protocol.proofs.Trees.{in_trees}
 use Rattle.runs.specs.declared.fault.RunFault.{RunFault}
 use Rattle.runs.specs.declared.task.Task.{Task}

@@ -19,7 +19,7 @@ use Rattle.parts.specs.Parts.{script_of as scriptIn, initial, reached, begin, Ea
 use Rattle.parts.proofs.Reached.{part_end, reached_push, by_cases}
 use Rattle.acting.specs.Standing.{Alone}
 use Rattle.protocol.specs.declared.step.Step.{Step}
-use Rattle.protocol.specs.View.{step_of, state_by}
+use Rattle.protocol.specs.States.{step_of, state_by}
 use Rattle.runs.specs.declared.task.Task.{Task}
 use Rattle.runs.specs.Memory.{lines_at}
 use Rattle.runs.specs.Tasks.{start_task, send_task, receive_task, starts_from, start_tasks, step_tasks}

@@ -11,7 +11,7 @@ use Rattle.acting.proofs.Nodes.{load_keeps}
 use Rattle.acting.proofs.Parts.{part_keeps}
 use Rattle.protocol.specs.declared.step.Step.{Step}
 use Rattle.protocol.specs.Reached.{Reached}
-use Rattle.protocol.specs.View.{state_by}
+use Rattle.protocol.specs.States.{state_by}
 use Rattle.runs.specs.declared.fault.Played.{Played}
 use Rattle.runs.specs.declared.fault.RunFault.{RunFault}
 use Rattle.runs.specs.declared.task.Task.{Task}

@@ -41,7 +41,7 @@ use Rattle.acting.specs.Standing.{StandsFor, Loaded, NoRoom, OwnNumbers}
 use Rattle.acting.proofs.Nodes.{load_stands}
 use Rattle.acting.proofs.Parts.{loaded_kept}
 use Rattle.protocol.specs.declared.step.Step.{Step}
-use Rattle.protocol.specs.View.{trees, step_of, state_by, holds_known, op_known, lines_known, scripts_known}
+use Rattle.protocol.specs.States.{trees, step_of, state_by, holds_known, op_known, lines_known, scripts_known}
 use Rattle.protocol.proofs.Trees.{length_trees, nth_trees}
 use Rattle.runs.specs.declared.fault.Played.{Played}
 use Rattle.runs.specs.declared.fault.RunFault.{RunFault}

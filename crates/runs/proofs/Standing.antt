@@ -19,7 +19,7 @@ use Rattle.acting.specs.Carrying.{between}
 use Rattle.acting.specs.Standing.{StandsFor, Loaded, Standing, Handed, AllHanded, Alone, comparisons}
 use Rattle.acting.proofs.Parts.{alone_handed}
 use Rattle.protocol.specs.Reading.{AgentName}
-use Rattle.protocol.specs.View.{trees}
+use Rattle.protocol.specs.States.{trees}
 use Rattle.runs.specs.declared.task.Role.{Role}
 use Rattle.runs.specs.declared.task.Role.TheVariants.{Start as STARTS, Send as SENDS, Receive as RECEIVES}
 use Rattle.runs.specs.declared.task.Task.{Task}

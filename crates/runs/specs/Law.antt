@@ -18,7 +18,7 @@ use Rattle.acting.specs.Carrying.{line_act}
 use Rattle.acting.specs.Loading.{node_act}
 use Rattle.acting.specs.Standing.{StandsFor, NoRoom}
 use Rattle.protocol.specs.declared.step.Step.{Step}
-use Rattle.protocol.specs.View.{state_by}
+use Rattle.protocol.specs.States.{state_by}
 use Rattle.runs.specs.declared.fault.Played.{Played}
 use Rattle.runs.specs.declared.fault.RunFault.{RunFault}
 use Rattle.runs.specs.Memory.{lines_at, base_of, Enough}

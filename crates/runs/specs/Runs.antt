@@ -11,7 +11,7 @@ use Rattle.acting.specs.Loading.{Loads}
 use Rattle.acting.specs.Refusals.{halt_refusal}
 use Rattle.acting.specs.Standing.{KeptOutside}
 use Rattle.protocol.specs.declared.step.Step.{Step}
-use Rattle.protocol.specs.View.{state_by}
+use Rattle.protocol.specs.States.{state_by}
 use Rattle.runs.specs.declared.fault.Played.{Played}
 use Rattle.runs.specs.declared.fault.RunFault.{RunFault}
 use Rattle.runs.specs.declared.task.Task.{Task}

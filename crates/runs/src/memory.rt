@@ -11,7 +11,7 @@ use terms::Terms;
 
 // How many slots a party has: one for each instruction. The listener has none.
 fn own_slots(protocol: &Protocol, agent: Agent) -> usize
-    ensures is { result ≡ own_slots (lines_of protocol.now.content) agent }
+    ensures is { result ≡ own_slots (lines_of protocol.now) agent }
     ensures few { result ≤ 512 }
 {
     if agent == LISTENER {
@@ -22,7 +22,7 @@ fn own_slots(protocol: &Protocol, agent: Agent) -> usize
 
 // Where a party's slots begin.
 pub(crate) fn base_of(protocol: &Protocol, party: Agent) -> usize
-    ensures { result ≡ base_of (lines_of protocol.now.content) party }
+    ensures { result ≡ base_of (lines_of protocol.now) party }
 {
     (0..party.min(protocol.agents()))
         .map(|earlier| own_slots(protocol, earlier))
@@ -31,7 +31,7 @@ pub(crate) fn base_of(protocol: &Protocol, party: Agent) -> usize
 
 // Whether there is a reading for every term, and a slot for every instruction of the parties.
 pub(crate) fn is_enough(protocol: &Protocol, readings: &[Handle], slots: &[Handle]) -> bool
-    ensures { result ≡ enough (listed protocol.now.content.terms) (lines_of protocol.now.content) readings.now slots.now }
+    ensures { result ≡ enough (listed protocol.now.terms) (lines_of protocol.now) readings.now slots.now }
 {
     protocol.terms().len() <= readings.len() && base_of(protocol, protocol.agents()) <= slots.len()
 }

@@ -1,7 +1,7 @@
 // Whole runs. The protocol, the provider, the readings and the slots are lent one by one: in a struct, each method would have to say
 // that the protocol and the readings stay.
 ghost use Rattle.std.specs.Prelude.{◌++◌, ◌≤◌, IfOk};
-ghost use Rattle.protocol.specs.Whole.{view_of};
+ghost use Rattle.protocol.specs.View.{view_of};
 ghost use Rattle.runs.specs.Tasks.{both_tasks};
 ghost use Rattle.runs.specs.Runs.{Refused};
 ghost use Rattle.runs.specs.Whole.{EnoughOf, TasksOf, RunsOf, RanOf, RestKeptOf, RunLawOf, starts_of, steps_tasks_of};

@@ -1,7 +1,6 @@
 // What one party does in a run at a time.
 ghost use Rattle.std.specs.Prelude.{◌≡◌, ◌+◌, ◌-◌, ◌≤◌, IfOk, slice_index};
-ghost use Rattle.protocol.specs.View.{lines_of};
-ghost use Rattle.protocol.specs.Whole.{view_of};
+ghost use Rattle.protocol.specs.View.{lines_of, view_of};
 ghost use Rattle.runs.specs.Memory.{base_of};
 ghost use Rattle.runs.specs.Tasks.{Hands, Handles, start_task, task_in, send_task, receive_task, outcome_of};
 ghost use Rattle.runs.specs.Whole.{DoesOf};
@@ -91,7 +90,7 @@ impl Task {
 
 // The reading of a party's name; 0 where it has none.
 fn name_reading(protocol: &Protocol, readings: &[Handle], party: Agent) -> Handle
-    ensures { Handles (listed protocol.now.content.terms) readings.now party result }
+    ensures { Handles (listed protocol.now.terms) readings.now party result }
 {
     protocol
         .name_of(party)
@@ -101,7 +100,7 @@ fn name_reading(protocol: &Protocol, readings: &[Handle], party: Agent) -> Handl
 
 // The last handle that a party has put when it has done so many instructions; 0 where there is none.
 fn last_put(protocol: &Protocol, slots: &[Handle], party: Agent, done: usize) -> Handle
-    ensures { result ≡ slice_index slots.now (base_of (lines_of protocol.now.content) party + (done - 1)) }
+    ensures { result ≡ slice_index slots.now (base_of (lines_of protocol.now) party + (done - 1)) }
 {
     slots
         .get(base_of(protocol, party)..)
@@ -111,7 +110,7 @@ fn last_put(protocol: &Protocol, slots: &[Handle], party: Agent, done: usize) ->
 
 // What a party is handed.
 fn part_of(protocol: &Protocol, readings: &[Handle], slots: &[Handle], role: Role) -> Part
-    ensures { Hands (listed protocol.now.content.terms) (lines_of protocol.now.content) readings.now slots.now role result }
+    ensures { Hands (listed protocol.now.terms) (lines_of protocol.now) readings.now slots.now role result }
 {
     match role {
         Role::Start => Part::Start,

@@ -29,7 +29,7 @@ LoadsIf f m ts true s readings r s' readings' = (o : Result ℕ Halt) × Loads f
 
 -- loading a protocol's terms; there are to be as many readings as terms
 abbrev pub Loaded : {S X : Type 0} → Algebra X → (S → Meaning X) → Protocol → S → List ℕ → Result ℕ SessionRefusal → S → List ℕ → Type 0
-Loaded f m p s readings r s' readings' = LoadsIf f m (listed p.content.terms) (nat_le (length (listed p.content.terms)) (length readings)) s readings r s' readings'
+Loaded f m p s readings r s' readings' = LoadsIf f m (listed p.terms) (nat_le (length (listed p.terms)) (length readings)) s readings r s' readings'
 
 -- the session after a work: its party's steps below number n are done, or as it was where it was stopped
 abbrev pub after : Session → ℕ → Result ℕ Halt → Session
@@ -58,20 +58,20 @@ first (Some e) w = Err e
 -- starting answers how many instructions are carried out
 abbrev pub Starts : {S X : Type 0} → Algebra X → (S → Meaning X) → Protocol → List ℕ → Session → S → List ℕ → Result ℕ SessionRefusal → Session → S → List ℕ → Type 0
 Starts f m p readings x s slots r x' s' slots' =
-    Performed f m readings (lines_in p.content x.party) (λ w hs n. w.end)
-    (first (unready p.content x.party (length readings) (length slots)) (start_work p x.party x.next))
+    Performed f m readings (lines_in p x.party) (λ w hs n. w.end)
+    (first (unready p x.party (length readings) (length slots)) (start_work p x.party x.next))
     x s slots r x' s' slots'
 
 -- sending answers the handles of the message and of the address
 abbrev pub Sends : {S X : Type 0} → Algebra X → (S → Meaning X) → Protocol → List ℕ → Session → S → List ℕ → Result (ℕ × ℕ) SessionRefusal → Session → S → List ℕ → Type 0
 Sends f m p readings x s slots r x' s' slots' =
-    Performed f m readings (lines_in p.content x.party) (λ w hs n. sent_by (lines_in p.content x.party) w.end hs)
-    (first (unready p.content x.party (length readings) (length slots)) (send_work p x.party x.next))
+    Performed f m readings (lines_in p x.party) (λ w hs n. sent_by (lines_in p x.party) w.end hs)
+    (first (unready p x.party (length readings) (length slots)) (send_work p x.party x.next))
     x s slots r x' s' slots'
 
 -- receiving answers how many comparisons were done
 abbrev pub Receives : {S X : Type 0} → Algebra X → (S → Meaning X) → Protocol → List ℕ → ℕ → ℕ → Session → S → List ℕ → Result ℕ SessionRefusal → Session → S → List ℕ → Type 0
 Receives f m p readings from message x s slots r x' s' slots' =
-    Performed f m readings (lines_in p.content x.party) (λ w hs n. n)
-    (first (unready p.content x.party (length readings) (length slots)) (receive_work from message p x.party x.next))
+    Performed f m readings (lines_in p x.party) (λ w hs n. n)
+    (first (unready p x.party (length readings) (length slots)) (receive_work from message p x.party x.next))
     x s slots r x' s' slots'

@@ -14,8 +14,8 @@ fn takes_part(step: Step, party: Agent) -> bool
 
 // The party's first step from a number on, with its number.
 pub(crate) fn next_step(protocol: &Protocol, from: usize, party: Agent) -> Option<(usize, Step)>
-    ensures is { result ≡ next_of (steps_of protocol.now.content) from party }
-    ensures lowest { Next (steps_of protocol.now.content) from party result }
+    ensures is { result ≡ next_of (steps_of protocol.now) from party }
+    ensures lowest { Next (steps_of protocol.now) from party result }
     ensures few { IfSome result (λ x. x.0 < 64) }
 {
     (from..protocol.steps()).find_map(|number| {

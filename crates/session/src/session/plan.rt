@@ -1,6 +1,6 @@
 // What a call is to carry out, or why it is refused.
 ghost use Rattle.std.specs.Prelude.{◌≡◌, ◌<◌, IfOk};
-ghost use Rattle.protocol.specs.Whole.{view_of};
+ghost use Rattle.protocol.specs.View.{view_of};
 ghost use Rattle.session.specs.Plans.{Readied, next_step, turn_of, part_work, start_work, send_work, receive_work};
 
 use crate::session::Session;
@@ -19,7 +19,7 @@ impl Session {
         readings: usize,
         slots: usize,
     ) -> Result<&'a Script, SessionRefusal>
-        ensures { Readied protocol.now.content self.party readings slots result }
+        ensures { Readied protocol.now self.party readings slots result }
     {
         if self.party == LISTENER {
             return Err(SessionRefusal::NoParty);
@@ -33,7 +33,7 @@ impl Session {
 
     // The party's next step with its number; none before the start.
     fn next_step(self, protocol: &Protocol) -> Result<(usize, Step), SessionRefusal>
-        ensures is { result ≡ turn_of (next_step protocol.now.content self.party self.next) }
+        ensures is { result ≡ turn_of (next_step protocol.now self.party self.next) }
         ensures few { IfOk result (λ x. x.0 < 64) }
     {
         self.next

@@ -4,4 +4,4 @@ use Rattle.runs.proofs.Bases.{own_is}
 use Rattle.runs.proofs.memory.own_slots.Goals as goal
 
 pub returns-clause-is : goal.returns-clause-is
-returns-clause-is c = own_is (lines_of c.args.protocol.now.content) c.args.agent c.if-agent-eq-LISTENER.false c.script.result c.map_or.result _ c.script.ensures c.map_or.ensures (λ s q. search rules)
+returns-clause-is c = own_is (lines_of c.args.protocol.now) c.args.agent c.if-agent-eq-LISTENER.false c.script.result c.map_or.result _ c.script.ensures c.map_or.ensures (λ s q. search rules)

@@ -10,7 +10,7 @@ pub returns-in_err-started : goal.returns-in_err-started
 returns-in_err-started g c =
     let p = g.P.Provider in
     let a = c.args in
-    let k = a.protocol.now.content in
+    let k = a.protocol.now in
     let q = err_from_is_err_and c.from_residual.result c.from_residual.ensures.1 in
     rw (q.1, q.2)
     (tasks_stop p.algebra p.meaning (listed k.terms) (lines_of k) a.readings.now (starts_of a.protocol.now) (steps_tasks_of a.protocol.now)
@@ -20,7 +20,7 @@ pub returns-in_err-played : goal.returns-in_err-played
 returns-in_err-played g c =
     let p = g.P.Provider in
     let a = c.args in
-    let k = a.protocol.now.content in
+    let k = a.protocol.now in
     let q = err_from_is_err_and c.from_residual-in_err-played.result c.from_residual-in_err-played.ensures.1 in
     rw (q.1, q.2)
     (tasks_then p.algebra p.meaning (listed k.terms) (lines_of k) a.readings.now (starts_of a.protocol.now) (steps_tasks_of a.protocol.now)
@@ -31,7 +31,7 @@ pub returns : goal.returns
 returns g c =
     let p = g.P.Provider in
     let a = c.args in
-    let k = a.protocol.now.content in
+    let k = a.protocol.now in
     tasks_then p.algebra p.meaning (listed k.terms) (lines_of k) a.readings.now (starts_of a.protocol.now) (steps_tasks_of a.protocol.now)
     a.provider.now a.slots.now c.in_ok-started.started c.start_parties.new.provider c.start_parties.new.slots
     (Ok c.in_ok-played.played) c.play_steps.new.provider c.play_steps.new.slots c.in_ok-started.ensures.whole c.in_ok-played.ensures.whole

@@ -1,10 +1,8 @@
 use Rattle.std.proofs.Common.{◌+◌, ◌≤◌, length, drop, refl, arith, rules}
 use Rattle.std.proofs.lemmas.Result.{err_from_is_err_and}
 use Rattle.terms.specs.Listed.{listed}
-use Rattle.protocol.specs.View.{lines_of, steps_of}
-use Rattle.protocol.specs.Whole.{view_of}
-use Rattle.protocol.proofs.Holding.{sound}
-use Rattle.protocol.proofs.Reading.{steps_length}
+use Rattle.protocol.specs.View.{lines_of, steps_of, view_of}
+use Rattle.protocol.proofs.Reading.{steps_few}
 use Rattle.runs.specs.Tasks.{both_tasks, step_tasks}
 use Rattle.runs.specs.Whole.{steps_tasks_of}
 use Rattle.runs.proofs.Rests.{rest_all, rest_more, rest_stop, rest_end, steps_more, steps_none, steps_end}
@@ -14,22 +12,22 @@ pub loop-number-init : goal.loop-number-init
 loop-number-init g c =
     let p = g.P.Provider in
     let a = c.args in
-    let k = a.protocol.now.content in
+    let k = a.protocol.now in
     let all = steps_tasks_of a.protocol.now in
     record { few = omega arith; rest = rest_all p.algebra p.meaning (listed k.terms) (lines_of k) a.readings.now all all a.provider.now a.slots.now refl }
 
 pub returns-in_default : goal.returns-in_default
 returns-in_default g c =
-    let k = c.args.protocol.now.content in
+    let k = c.args.protocol.now in
     record {
       whole = rest_end c.loop-number.invariant.rest (steps_none (view_of c.args.protocol.now) (steps_of k) c.loop-number.number c.step.result c.step.ensures c.in_default.is);
-      few = omega (arith, c.loop-number.invariant.few, c.loop-number-test.true, c.steps-number-end.ensures, steps_length k (sound c.args.protocol.now), c.args.protocol.now.steps_few);
+      few = omega (arith, c.loop-number.invariant.few, c.loop-number-test.true, c.steps-number-end.ensures, steps_few k);
     }
 
 pub returns-in_err-sames : goal.returns-in_err-sames
 returns-in_err-sames g c =
     let st = view_of c.args.protocol.now in
-    let ss = steps_of c.args.protocol.now.content in
+    let ss = steps_of c.args.protocol.now in
     let i = c.loop-number.number in
     let x = c.in-Some.step in
     let q = err_from_is_err_and c.from_residual.result c.from_residual.ensures.1 in
@@ -41,15 +39,15 @@ returns-in_err-sames g c =
 
 pub overflow_add-sames : goal.overflow_add-sames
 overflow_add-sames g c =
-    let k = c.args.protocol.now.content in
+    let k = c.args.protocol.now in
     let h : c.loop-number.sames + c.in_ok-sames.field-0 ≤ 100000 =
-    omega (arith, c.loop-number.invariant.few, c.in_ok-sames.ensures.few, c.loop-number-test.true, c.steps-number-end.ensures, steps_length k (sound c.args.protocol.now), c.args.protocol.now.steps_few) in
+    omega (arith, c.loop-number.invariant.few, c.in_ok-sames.ensures.few, c.loop-number-test.true, c.steps-number-end.ensures, steps_few k) in
     search rules
 
 pub loop-number-preserved : goal.loop-number-preserved
 loop-number-preserved g c =
     let st = view_of c.args.protocol.now in
-    let ss = steps_of c.args.protocol.now.content in
+    let ss = steps_of c.args.protocol.now in
     let i = c.loop-number.number in
     let x = c.in-Some.step in
     record {
@@ -60,10 +58,10 @@ loop-number-preserved g c =
 
 pub returns : goal.returns
 returns g c =
-    let k = c.args.protocol.now.content in
+    let k = c.args.protocol.now in
     let i = c.loop-number.number in
     let past : length (steps_of k) ≤ i = omega (arith, c.loop-number-test.false, c.steps-number-end.ensures) in
     record {
       whole = rest_end c.loop-number.invariant.rest (steps_end (view_of c.args.protocol.now) (steps_of k) i past);
-      few = omega (arith, c.loop-number.invariant.few, c.loop-number.auto.number-end, c.steps-number-end.ensures, steps_length k (sound c.args.protocol.now), c.args.protocol.now.steps_few);
+      few = omega (arith, c.loop-number.invariant.few, c.loop-number.auto.number-end, c.steps-number-end.ensures, steps_few k);
     }

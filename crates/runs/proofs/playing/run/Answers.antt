@@ -3,7 +3,8 @@ use Rattle.std.proofs.lemmas.Bool.{and_parts}
 use Rattle.terms.specs.Listed.{listed}
 use Rattle.terms.proofs.Listed.{orderly, listed_few}
 use Rattle.valuation.specs.Law.{Lawful}
-use Rattle.protocol.specs.View.{lines_of, steps_of, scripts_known, steps_known}
+use Rattle.protocol.specs.States.{scripts_known, steps_known}
+use Rattle.protocol.specs.View.{lines_of, steps_of}
 use Rattle.runs.proofs.Keeping.{run_keeps}
 use Rattle.runs.proofs.Right.{run_law, run_refused}
 use Rattle.runs.proofs.playing.run.Goals as goal
@@ -14,7 +15,7 @@ returns g c =
     let q = g.met.P.Provider in
     let a = c.args in
     let d = c.try_run in
-    let k = a.protocol.now.content in
+    let k = a.protocol.now in
     let n = length (listed k.terms) in
     let law : Lawful p.proper p.algebra = record { halves = q.halves; mates = q.mates; seals = q.seals; builds = q.builds } in
     let known = (and_parts (scripts_known n (lines_of k)) (steps_known n (steps_of k)) a.protocol.now.known).0 in

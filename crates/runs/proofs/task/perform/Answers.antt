@@ -13,7 +13,7 @@ returns-in_default g c =
     let p = g.P.Provider in
     let a = c.args in
     let t = a.task in
-    let ps = lines_of a.protocol.now.content in
+    let ps = lines_of a.protocol.now in
     record {
       whole = (
         c.part_of-part.result,
@@ -30,7 +30,7 @@ returns g c =
     let p = g.P.Provider in
     let a = c.args in
     let t = a.task in
-    let ps = lines_of a.protocol.now.content in
+    let ps = lines_of a.protocol.now in
     let ls = written c.in-Some.script.now in
     record {
       whole = (
