@@ -10,7 +10,7 @@ use Rattle.scripts.specs.declared.script.Script.{Script}
 use Rattle.scripts.specs.View.{written}
 use Rattle.rules.specs.State.{nth}
 use Rattle.rules.proofs.Nth.{some_is, nth_at, nth_below}
-use Rattle.protocol.specs.declared.protocol.{Protocol}
+use Rattle.protocol.specs.declared.protocol.Protocol.{Protocol}
 use Rattle.protocol.specs.View.{lines_of}
 use Rattle.protocol.specs.Reading.{ShowsScript}
 use Rattle.runs.specs.Memory.{lines_at, own_slots, base_of}

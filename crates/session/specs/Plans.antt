@@ -11,7 +11,6 @@ use Rattle.acting.specs.declared.instruction.Part.{Part}
 use Rattle.acting.specs.declared.instruction.Part.TheVariants.{Start, Send, Receive}
 use Rattle.acting.specs.declared.refusal.SessionRefusal.{SessionRefusal}
 use Rattle.acting.specs.declared.refusal.SessionRefusal.TheVariants.{NoParty, NoMemory, NotItsTurn}
-use Rattle.protocol.specs.declared.protocol.{Protocol}
 use Rattle.protocol.specs.declared.protocol.Protocol.{Protocol}
 use Rattle.protocol.specs.declared.step.Step.{Step}
 use Rattle.protocol.specs.View.{lines_of, steps_of, view_of}
