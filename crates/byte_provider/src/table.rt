@@ -1,4 +1,5 @@
-// The bytes of the provider, one after another; those below `used` are in use.
+// The bytes of the provider, one after another; those below `used` are in use. They stand in an array, where a value is copied
+// as a whole: a bounded list takes one byte at a time.
 ghost use Rattle.std.specs.Prelude.{◌≡◌, ℕ, ◌<◌, ◌≤◌, length, slice_index};
 
 mod read;

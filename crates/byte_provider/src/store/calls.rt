@@ -51,7 +51,8 @@ impl ByteProvider {
 
     // Writes what a plan adds and issues the next handle for its value.
     fn store(&mut self, plan: Plan) -> Handle
-        requires { (Sound (bytes_of self.old) plan) × (has_room self.old plan ≡ true) }
+        requires sound { Sound (bytes_of self.old) plan }
+        requires room { has_room self.old plan ≡ true }
         ensures { (m : Making) → PlanFor self.old m plan → Done self.old m (Ok result) self.new }
     {
         let span = self.table.write(plan);

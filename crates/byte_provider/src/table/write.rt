@@ -3,13 +3,13 @@ ghost use Rattle.std.specs.Prelude.{◌≡◌, ◌+◌, ◌-◌, ◌%◌, ◌<�
 ghost use Rattle.byte_provider.specs.Held.{held, part, Inside};
 ghost use Rattle.byte_provider.specs.Plans.{head_bytes, Sound, added};
 ghost use Rattle.byte_provider.specs.Values.{shifted};
-ghost use Rattle.byte_provider.specs.Writing.{Added, Written};
+ghost use Rattle.byte_provider.specs.Writing.{Added, HasSpace, Written};
 
 use super::Table;
 use crate::plan::{Head, Plan, Shift};
 use crate::span::Span;
 
-// The place after `at` in a body of n bytes, which begins anew where it ends.
+// The place after `at` in a body of n bytes, which begins anew where it ends. A remainder for each byte takes four times as long.
 fn after(at: usize, n: usize) -> usize
     requires { at < n }
     ensures { (result ≡ (at + 1) % n) × (result < n) }
@@ -29,7 +29,7 @@ impl Table {
 
     // More bytes.
     fn extend(&mut self, more: &[u8])
-        requires { self.old.used + length more.now ≤ 32768 }
+        requires { HasSpace self.old (length more.now) }
         ensures { Added self.old more.now self.new }
     {
         let end = self.used + more.len();
@@ -38,7 +38,7 @@ impl Table {
     }
 
     fn extend_head(&mut self, head: Head)
-        requires { self.old.used + length (head_bytes head) ≤ 32768 }
+        requires { HasSpace self.old (length (head_bytes head)) }
         ensures { Added self.old (head_bytes head) self.new }
     {
         match head {
@@ -50,7 +50,8 @@ impl Table {
 
     // A span's bytes once more.
     fn copy(&mut self, span: Span)
-        requires { (Inside (held self.old) span) × (self.old.used + span.len ≤ 32768) }
+        requires inside { Inside (held self.old) span }
+        requires space { HasSpace self.old span.len }
         ensures { Added self.old (part (held self.old) span) self.new }
     {
         self.bytes
@@ -60,7 +61,10 @@ impl Table {
 
     // A content's bytes once more, each shifted by the body's.
     fn shift(&mut self, way: Shift, content: Span, body: Span)
-        requires { (Inside (held self.old) content) × ((Inside (held self.old) body) × ((0 < body.len) × (self.old.used + content.len ≤ 32768))) }
+        requires content_inside { Inside (held self.old) content }
+        requires body_inside { Inside (held self.old) body }
+        requires some_body { 0 < body.len }
+        requires space { HasSpace self.old content.len }
         ensures { Added self.old (shifted way (part (held self.old) body) 0 (part (held self.old) content)) self.new }
     {
         let at = self.used;
@@ -77,7 +81,9 @@ impl Table {
 
     // A head and two spans' bytes.
     fn copied(&mut self, head: Head, first: Span, second: Span)
-        requires { (Inside (held self.old) first) × ((Inside (held self.old) second) × (self.old.used + length (head_bytes head) + first.len + second.len ≤ 32768)) }
+        requires first_inside { Inside (held self.old) first }
+        requires second_inside { Inside (held self.old) second }
+        requires space { HasSpace self.old (length (head_bytes head) + first.len + second.len) }
         ensures { Added self.old (head_bytes head ++ (part (held self.old) first ++ part (held self.old) second)) self.new }
     {
         self.extend_head(head);
@@ -99,7 +105,8 @@ impl Table {
     // Writes what a plan adds, and answers where its value lies.
     #[tactic(auto, using(crate::proofs::Loops::length_shifted, crate::specs::Parts::length_part))]
     pub(crate) fn write(&mut self, plan: Plan) -> Span
-        requires { (Sound (held self.old) plan) × (self.old.used + length (added (held self.old) plan) ≤ 32768) }
+        requires sound { Sound (held self.old) plan }
+        requires space { HasSpace self.old (length (added (held self.old) plan)) }
         ensures { Written self.old plan result self.new }
     {
         let start = self.used;

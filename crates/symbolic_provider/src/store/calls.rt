@@ -1,7 +1,6 @@
 // The calls of the provider.
 ghost use Rattle.std.specs.Prelude.{◌≡◌, []};
-ghost use Rattle.provider.specs.Meaning.{Answers, Same};
-ghost use Rattle.provider.specs.declared.Making.TheVariants.{Atom, Join, Left, Right, Seal, Open, Digest, Entry, Mate};
+ghost use Rattle.provider.specs.Meaning.{Same};
 ghost use Rattle.deduction.specs.Term.{Formed, Term};
 ghost use Rattle.symbolic_provider.specs.Outcome.{Outcome};
 ghost use Rattle.symbolic_provider.specs.Records.{Recorded};

@@ -5,4 +5,4 @@ pub returns : goal.returns
 returns c =
     let next = rw c.unwrap.ensures at c.push.ensures.ok in
     let place = rw c.unwrap.ensures at c.push.ensures.place in
-    λ m f. rw place (stored_plan c.args.self.now _ c.args.plan c.write-span.result c.write-span.ensures next c.requires.1 m f)
+    λ m f. rw place (stored_plan c.args.self.now _ c.args.plan c.write-span.result c.write-span.ensures next c.requires.room m f)

@@ -10,6 +10,6 @@ returns c =
     let p = c.args.span in
     let l : t.used ≤ length t.bytes = search rules in
     record {
-      bytes = ap (take (t.used + p.len)) c.copy_within.ensures.after ∙ copied_to t.bytes t.used p c.requires.0 (search rules);
-      used = ap (λ n. t.used + n) (sym (length_part (held t) p c.requires.0));
+      bytes = ap (take (t.used + p.len)) c.copy_within.ensures.after ∙ copied_to t.bytes t.used p c.requires.inside (search rules);
+      used = ap (λ n. t.used + n) (sym (length_part (held t) p c.requires.inside));
     }

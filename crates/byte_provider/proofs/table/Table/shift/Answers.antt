@@ -19,14 +19,14 @@ loop-i-preserved c =
     let v = c.loop-i.invariant in
     let done = shifted w (part (held t) q) 0 (take i (part (held t) p)) in
     let room : t.used + i < length bs = search rules in
-    let lp : p.start + i < length (held t) = omega (arith, c.requires.0) in
-    let lq : q.start + k < length (held t) = omega (arith, c.requires.1.0, v.3) in
+    let lp : p.start + i < length (held t) = omega (arith, c.requires.content_inside) in
+    let lq : q.start + k < length (held t) = omega (arith, c.requires.body_inside, v.3) in
     let fp = front t.bytes bs done t.used i v.0 (p.start + i) lp in
     let fq = front t.bytes bs done t.used i v.0 (q.start + k) lq in (
       wrote_more t.bytes bs done t.used i v.0 c.apply.result room
           ∙ ap (λ l. held t ++ l)
           (ap (λ b. done ++ (b ∷ [])) (c.apply.ensures ∙ ap₂ (shift w) fp fq)
-          ∙ shift_more w (held t) p q i k c.requires.0 c.requires.1.0 c.loop-i-test.true v.2 v.3),
+          ∙ shift_more w (held t) p q i k c.requires.content_inside c.requires.body_inside c.loop-i-test.true v.2 v.3),
       v.1,
       c.after-k.ensures.0 ∙ ap (λ n. (n + 1) % q.len) v.2 ∙ mod-add-mod i q.len 1,
       c.after-k.ensures.1,
@@ -44,6 +44,6 @@ returns c =
       bytes =
           ap (λ n. take (t.used + n) c.loop-i.self.bytes) (sym e)
           ∙ c.loop-i.invariant.0
-          ∙ ap (λ v. held t ++ shifted w body 0 v) (part_done (held t) p i c.requires.0 c.loop-i.auto.i-end c.loop-i-test.false);
-      used = ap (λ n. t.used + n) (sym (length_shifted w body 0 (part (held t) p) ∙ length_part (held t) p c.requires.0));
+          ∙ ap (λ v. held t ++ shifted w body 0 v) (part_done (held t) p i c.requires.content_inside c.loop-i.auto.i-end c.loop-i-test.false);
+      used = ap (λ n. t.used + n) (sym (length_shifted w body 0 (part (held t) p) ∙ length_part (held t) p c.requires.content_inside));
     }
