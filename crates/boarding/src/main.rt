@@ -9,13 +9,13 @@ use actions::Rehearsal;
 use boarding::CALLS;
 use byte_provider::ByteProvider;
 use compiled::compile_and_run;
-use protocol::{Answer, Protocol};
+use protocol::{Answer, Protocol, Reply};
 use std::io;
 
 // The calls that were refused, if any was.
 fn print_refusals(rt: &HostRuntime, answers: &[Answer]) -> io::Result<()> {
     for (number, answer) in answers.iter().enumerate() {
-        if let Answer::Refused(refusal) = answer {
+        if let Err(refusal) = answer {
             println!(rt; "call {number} is refused: {}", refusal.number())?;
         }
     }
@@ -24,7 +24,7 @@ fn print_refusals(rt: &HostRuntime, answers: &[Answer]) -> io::Result<()> {
 
 fn main(rt: HostRuntime) -> io::Result<()> {
     let mut protocol = Protocol::blank();
-    let mut answers = [Answer::Done; 31];
+    let mut answers = [Ok(Reply::Done); 31];
     let mut provider = ByteProvider::blank();
     let mut readings = [0; 512];
     let mut slots = [0; 4096];

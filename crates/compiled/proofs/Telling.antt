@@ -1,5 +1,5 @@
 -- What a call is told as follows from its answer.
-use Rattle.std.proofs.Common.{◌≡◌, ℕ, ◌+◌, Bool, true, false, cond, eqb, ltb, length, Some, None, Option, sym, refl, ap, ◌∙◌, subst, inl, inr}
+use Rattle.std.proofs.Common.{Result, ◌≡◌, ℕ, ◌+◌, Bool, true, false, cond, eqb, ltb, length, Some, None, Option, sym, refl, ap, ◌∙◌, subst, inl, inr}
 use Rattle.deduction.specs.Term.{party, Form, pair, Term, mate_of, built}
 use Rattle.deduction.specs.Decide.{is_key, parts_fit}
 use Rattle.rules.specs.State.{State, Outcome, Told, named, formed, mated, known, stepped, asked, refused, Refusal as RuleRefusal, NAME, BUILD, KNOW, STEP, CAN, nth, with, kind_of, form_of, new_terms, new_scripts, place_of, has_no_steps, too_long, perform}
@@ -8,7 +8,8 @@ use Rattle.rules.specs.Effects.{knows}
 use Rattle.rules.proofs.Nth.{with_both}
 use Rattle.protocol.specs.declared.call.Call.{Call}
 use Rattle.protocol.specs.declared.call.Call.TheVariants.{Name, Build, Know, Step, CanBuild}
-use Rattle.protocol.specs.declared.call.Answer.{Answer}
+use Rattle.protocol.specs.declared.call.Reply.{Reply}
+use Rattle.protocol.specs.declared.refusal.Refusal.{Refusal}
 use Rattle.protocol.specs.Outcome.{call_of, answer_of, Performed}
 use Rattle.protocol.specs.Refusals.{refusal_of}
 use Rattle.protocol.proofs.Laws.{cond_both, StepTold, step_told, CanTold, can_told}
@@ -109,5 +110,5 @@ module _ (st : State) where
   tells (CanBuild p n) = can_tells p n
 
 -- the call and its answer tell what the rules tell
-pub told_is : (st st' : State) (c : Call) (a : Answer) → Performed st (call_of c) a st' → (perform st (call_of c)).told ≡ told_by c a
+pub told_is : (st st' : State) (c : Call) (a : Result Reply Refusal) → Performed st (call_of c) a st' → (perform st (call_of c)).told ≡ told_by c a
 told_is st st' c a p = sym (tells st c) ∙ ap (told_by c) (sym p.answer)

@@ -1,5 +1,5 @@
 -- The history of a list of calls with their answers, and what it says of them.
-use Rattle.std.specs.Prelude.{◌≡◌, ℕ, ◌<◌, ◌≤◌, Bool, true, false, cond, List, [], ◌∷◌, length, take, drop, ◌==◌}
+use Rattle.std.specs.Prelude.{◌≡◌, ℕ, ◌<◌, ◌≤◌, Bool, true, false, cond, List, [], ◌∷◌, length, take, drop, Ok, Err, Result, ◌==◌}
 use Rattle.deduction.specs.Term.{Kind, party, Form, pair}
 use Rattle.rules.specs.State.{Refusal as RuleRefusal, Told, named, formed, mated, known, stepped, asked, refused, kind_of, form_of, with}
 use Rattle.rules.specs.State as rules
@@ -7,8 +7,8 @@ use Rattle.rules.specs.History.{History, Came, AnsweredRight}
 use Rattle.rules.specs.Theorems.{MissingTold}
 use Rattle.protocol.specs.declared.call.Call.{Call}
 use Rattle.protocol.specs.declared.call.Call.TheVariants.{Name, Build, Know, Step, CanBuild}
-use Rattle.protocol.specs.declared.call.Answer.{Answer}
-use Rattle.protocol.specs.declared.call.Answer.TheVariants.{Number, Done, Said, Refused}
+use Rattle.protocol.specs.declared.call.Reply.{Reply}
+use Rattle.protocol.specs.declared.call.Reply.TheVariants.{Number, Done, Said}
 use Rattle.protocol.specs.declared.protocol.Protocol.{Protocol}
 use Rattle.protocol.specs.declared.refusal.Refusal.{Refusal}
 use Rattle.protocol.specs.declared.refusal.Refusal.TheVariants.{Unknown, WrongKind, NoRoom, EighthParty, TooLate, NoTwoParties, LastStep, NoAddress, Unmakeable, ScriptFull}
@@ -40,35 +40,35 @@ built_by f a b n = cond (f == 4) (mated a n) (formed (form_at f) a b n)
 
 -- A call with its answer, as the rules tell it. An answer that does not suit its call is told as what no such call tells, so that a
 -- history with one cannot have come about.
-abbrev pub told_by : Call → Answer → Told
-told_by (Name k) (Number n) = named (kind_at k) n
-told_by (Name k) Done = known 0 0
-told_by (Name k) (Said b) = asked 0 0 b
-told_by (Name k) (Refused r) = refused (rules.NAME k) (rule_refusal r)
-told_by (Build f a b) (Number n) = built_by f a b n
-told_by (Build f a b) Done = known 0 0
-told_by (Build f a b) (Said y) = asked 0 0 y
-told_by (Build f a b) (Refused r) = refused (rules.BUILD f a b) (rule_refusal r)
-told_by (Know p t) (Number n) = stepped 0 0 0 n
-told_by (Know p t) Done = known p t
-told_by (Know p t) (Said b) = asked 0 0 b
-told_by (Know p t) (Refused r) = refused (rules.KNOW p t) (rule_refusal r)
-told_by (Step a b t) (Number n) = stepped a b t n
-told_by (Step a b t) Done = known 0 0
-told_by (Step a b t) (Said y) = asked 0 0 y
-told_by (Step a b t) (Refused r) = refused (rules.STEP a b t) (rule_refusal r)
-told_by (CanBuild p t) (Number n) = stepped 0 0 0 n
-told_by (CanBuild p t) Done = known 0 0
-told_by (CanBuild p t) (Said b) = asked p t b
-told_by (CanBuild p t) (Refused r) = refused (rules.CAN p t) (rule_refusal r)
+abbrev pub told_by : Call → Result Reply Refusal → Told
+told_by (Name k) (Ok (Number n)) = named (kind_at k) n
+told_by (Name k) (Ok Done) = known 0 0
+told_by (Name k) (Ok (Said b)) = asked 0 0 b
+told_by (Name k) (Err r) = refused (rules.NAME k) (rule_refusal r)
+told_by (Build f a b) (Ok (Number n)) = built_by f a b n
+told_by (Build f a b) (Ok Done) = known 0 0
+told_by (Build f a b) (Ok (Said y)) = asked 0 0 y
+told_by (Build f a b) (Err r) = refused (rules.BUILD f a b) (rule_refusal r)
+told_by (Know p t) (Ok (Number n)) = stepped 0 0 0 n
+told_by (Know p t) (Ok Done) = known p t
+told_by (Know p t) (Ok (Said b)) = asked 0 0 b
+told_by (Know p t) (Err r) = refused (rules.KNOW p t) (rule_refusal r)
+told_by (Step a b t) (Ok (Number n)) = stepped a b t n
+told_by (Step a b t) (Ok Done) = known 0 0
+told_by (Step a b t) (Ok (Said y)) = asked 0 0 y
+told_by (Step a b t) (Err r) = refused (rules.STEP a b t) (rule_refusal r)
+told_by (CanBuild p t) (Ok (Number n)) = stepped 0 0 0 n
+told_by (CanBuild p t) (Ok Done) = known 0 0
+told_by (CanBuild p t) (Ok (Said b)) = asked p t b
+told_by (CanBuild p t) (Err r) = refused (rules.CAN p t) (rule_refusal r)
 
 -- the history of calls with their answers, after an earlier one; the newest comes first
-abbrev pub history_after : History → List Call → List Answer → History
+abbrev pub history_after : History → List Call → List (Result Reply Refusal) → History
 history_after past [] rs = past
 history_after past (c ∷ cs) [] = past
 history_after past (c ∷ cs) (r ∷ rs) = history_after (told_by c r ∷ past) cs rs
 
-abbrev pub history_of : List Call → List Answer → History
+abbrev pub history_of : List Call → List (Result Reply Refusal) → History
 history_of cs rs = history_after [] cs rs
 
 -- Every answer is right by the calls before it: a step is refused as unmakeable exactly when its sender cannot build the message, past the
@@ -79,13 +79,13 @@ AllRight (d ∷ past) = (AnsweredRight past d × MissingTold past d) × AllRight
 
 -- the calls were made from blank: the answers stand at the front of the list, the protocol is what came of them, every answer is right,
 -- and the rest of the list is as it was
-pub record Performs (calls : List Call) (answers : List Answer) (p' : Protocol) (answers' : List Answer) : Type 0 where
+pub record Performs (calls : List Call) (answers : List (Result Reply Refusal)) (p' : Protocol) (answers' : List (Result Reply Refusal)) : Type 0 where
   pub came : Came (history_of calls (take (length calls) answers')) (view_of p')
   pub right : AllRight (history_of calls (take (length calls) answers'))
   pub rest : drop (length calls) answers' ≡ drop (length calls) answers
   pub long : length answers' ≡ length answers
 
 -- they are made exactly if there is an answer for each, else nothing is altered
-abbrev pub PerformsIf : Protocol → List Call → List Answer → Bool → Protocol → List Answer → Type 0
+abbrev pub PerformsIf : Protocol → List Call → List (Result Reply Refusal) → Bool → Protocol → List (Result Reply Refusal) → Type 0
 PerformsIf p calls answers true p' answers' = (length calls ≤ length answers) × Performs calls answers p' answers'
 PerformsIf p calls answers false p' answers' = (length answers < length calls) × (p' ≡ p) × (answers' ≡ answers)

@@ -1,23 +1,11 @@
 // Compiling and running in one call.
-ghost use Rattle.std.specs.Prelude.{◌≡◌};
-ghost use Rattle.compiled.specs.Compiled.{Compiled, unanswered};
+ghost use Rattle.compiled.specs.Compiled.{Compiled};
 
 use crate::calls::perform_all;
 use acting::SessionRefusal;
 use protocol::{Answer, Call, Protocol};
 use provider::{Handle, Provider};
 use runs::{Played, RunFault, run};
-
-// The refusal where fewer answers are lent than calls.
-fn no_answers() -> RunFault
-    ensures { result ≡ unanswered }
-{
-    RunFault {
-        refusal: SessionRefusal::NoMemory,
-        step: 64,
-        party: 0,
-    }
-}
 
 // Makes the calls in order on a blanked protocol, with their answers into the lent list, and runs what came of them on a provider.
 pub fn compile_and_run<P: Provider>(
@@ -33,6 +21,6 @@ pub fn compile_and_run<P: Provider>(
     if perform_all(protocol, calls, answers) {
         run(protocol, provider, readings, slots)
     } else {
-        Err(no_answers())
+        Err(SessionRefusal::NoMemory.into())
     }
 }

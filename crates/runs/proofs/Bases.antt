@@ -7,6 +7,8 @@ use Rattle.std.specs.List.{range_with_len, sum_by}
 use Rattle.std.specs.Borrow.{Bor}
 use Rattle.scripts.specs.declared.instruction.Line.{Line}
 use Rattle.scripts.specs.declared.script.Script.{Script}
+use Rattle.bounded.specs.Items.{items}
+use Rattle.scripts.proofs.Writing.{written_few}
 use Rattle.scripts.specs.View.{written}
 use Rattle.rules.specs.State.{nth}
 use Rattle.rules.proofs.Nth.{some_is, nth_at, nth_below}
@@ -68,15 +70,14 @@ sum_from ps k (suc n) =
 pub base_sum : (ps : List (List Line)) (n : ℕ) → sum_by (own_slots ps) (range_with_len 0 n) ≡ base_of ps n
 base_sum ps n = sym (zero-add (sum_by (own_slots ps) (range_with_len 0 n))) ∙ sum_from ps 0 n ∙ ap (base_of ps) (zero-add n)
 
-few_lines : (ss : List Script) (n p : ℕ) → length (get_or (take n (map written ss)) p []) ≤ 512
-few_lines ss zero p = omega arith
-few_lines [] (suc n) p = omega arith
-few_lines (s ∷ ss) (suc n) zero = let few = s.few in omega (arith, length-take s.len s.lines)
-few_lines (s ∷ ss) (suc n) (suc p) = few_lines ss n p
+few_lines : (ss : List Script) (p : ℕ) → length (get_or (map written ss) p []) ≤ 512
+few_lines [] p = omega arith
+few_lines (s ∷ ss) zero = written_few s
+few_lines (s ∷ ss) (suc p) = few_lines ss p
 
 few_slots : (c : Protocol) (p : ℕ) → own_slots (lines_of c) p ≤ 512
 few_slots c zero = omega arith
-few_slots c (suc p) = few_lines c.scripts c.agents (suc p)
+few_slots c (suc p) = few_lines (items c.scripts) (suc p)
 
 pub base_few : (c : Protocol) (n : ℕ) → base_of (lines_of c) n ≤ 512 * n
 base_few c zero = omega arith
