@@ -24,6 +24,7 @@ fn carry<P: Provider>(
 {
     let mut sames = 0;
     let room = slots.len().saturating_sub(base);
+    // by number: an instruction reads the slots before its own
     for at in range.start..range.end.min(room) {
         let Some(line) = script.line(at) else {
             return Ok(sames);

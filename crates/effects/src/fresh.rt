@@ -57,6 +57,7 @@ pub(crate) fn freshen_all(
 ) -> Result<(), ScriptError>
     ensures { let ts = listed terms.now in NamesTerms ts script.old → MatesKnown ts fresh.now → Writes ts (freshens (view ts script.old) (marked_trees ts fresh.now)) result script.new }
 {
+    // up to the last term: the marks have places past it
     for name in 0..terms.len() {
         if fresh[name] {
             freshen(script, terms, name)?;

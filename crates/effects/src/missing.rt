@@ -34,6 +34,7 @@ fn comes_fresh(terms: &Terms<512>, fresh: &[bool; 512], term: TermId) -> bool
 fn mark_fresh(terms: &Terms<512>, fresh: &[bool; 512], marks: &mut [bool; 512])
     ensures { FreshMarked (listed terms.now) fresh.now marks.old marks.new }
 {
+    // up to the last term: the marks have places past it
     for term in 0..terms.len() {
         marks[term] |= comes_fresh(terms, fresh, term);
     }

@@ -50,6 +50,7 @@ fn fresh_among(terms: &Terms<512>, sent: &[bool; 512], used: &[bool; 512]) -> [b
     ensures { FreshAmong (listed terms.now) sent.now used.now result }
 {
     let mut fresh = [false; 512];
+    // up to the last term: the marks have places past it
     for term in 0..terms.len() {
         fresh[term] = is_fresh_at(terms, term, sent, used);
     }

@@ -38,6 +38,7 @@ pub fn occurring(terms: &Terms<512>, marks: &[bool; 512]) -> [bool; 512]
     ensures { Occurring (listed terms.now) marks.now result }
 {
     let mut occurring = [false; 512];
+    // by number: a term marks its parts, which come later in the loop
     for term in (0..terms.len()).rev() {
         if marks[term] || occurring[term] {
             mark_whole(terms, term, &mut occurring);

@@ -1,6 +1,6 @@
 -- Where an agent's part of a step begins, told from its script and the steps before.
-use Rattle.std.proofs.Common.{◌≡◌, min, get_or-take, ℕ, zero, suc, ◌+◌, ◌-◌, ◌<◌, ◌≤◌, List, [], ◌∷◌, ◌++◌, map, length, get_or, take, drop, Some, None, sym, refl, ap, ◌∙◌, arith}
-use Rattle.std.proofs.lemmas.List.{length-take, take_min}
+use Rattle.std.proofs.Common.{◌≡◌, length-append, min, get_or-take, ℕ, zero, suc, ◌+◌, ◌<◌, ◌≤◌, List, [], ◌∷◌, ◌++◌, map, length, get_or, take, Some, None, sym, refl, ap, ◌∙◌, arith}
+use Rattle.std.proofs.lemmas.List.{append-nil, append_assoc, length-take, take_min}
 use Rattle.bounded.specs.Items.{items}
 use Rattle.deduction.specs.Term.{party, Term, name}
 use Rattle.terms.specs.Listed.{listed}
@@ -50,27 +50,6 @@ opening_view : (T : ℕ → Term) (ls : List Line) → opening (script_of T ls) 
 opening_view T [] = refl
 opening_view T (l ∷ ls) = ap (opens (op_of T l.op)) (opening_view T ls) ∙ opens_view T l.op (opening_of ls)
 
--- the lines from a place on
-drop_none : (ls : List Line) → drop (length ls) ls ≡ []
-drop_none [] = refl
-drop_none (l ∷ ls) = drop_none ls
-
-drop_line : (ls : List Line) (i : ℕ) (l : Line) → nth ls i ≡ Some l → drop i ls ≡ l ∷ drop (suc i) ls
-drop_line [] i l e = absurd (some_none None e refl)
-drop_line (x ∷ ls) zero l e = ap (λ y. y ∷ ls) (some_is e)
-drop_line (x ∷ ls) (suc i) l e = drop_line ls i l e
-
--- what is known of the opening with so many lines behind looked at
-pub record Behind (ls : List Line) (n behind opening : ℕ) : Type 0 where
-  pub is : opening ≡ opening_of (drop (n - behind) ls)
-  pub few : opening ≤ behind
-  pub all : n ≡ length ls
-
-pub none_behind : (ls : List Line) (n : ℕ) → n ≡ length ls → Behind ls n 0 0
-none_behind ls n e =
-    let q : n - 0 ≡ length ls = omega arith in
-    record { is = sym (ap (λ m. opening_of (drop m ls)) q ∙ ap opening_of (drop_none ls)); few = omega arith; all = e }
-
 opens_few : (o : Instruction) (n m : ℕ) → n ≤ m → opens_by o n ≤ suc m
 opens_few o n m h =
     let T : ℕ → Term = (λ i. name party i) in
@@ -78,24 +57,34 @@ opens_few o n m h =
     let w = opens_within (op_of T o) n m h in
     omega arith
 
--- one line more
-pub one_behind : (ls : List Line) (n k o : ℕ) (l : Line) → Behind ls n k o → k < n → Some l ≡ nth ls (n - 1 - k) → Behind ls n (k + 1) (opens_by l.op o)
-one_behind ls n k o l b h e =
-    let p : n - 1 - k ≡ n - (k + 1) = omega arith in
-    let q : suc (n - (k + 1)) ≡ n - k = omega arith in
-    let d : drop (n - (k + 1)) ls ≡ l ∷ drop (n - k) ls =
-    drop_line ls (n - (k + 1)) l (ap (nth ls) (sym p) ∙ sym e) ∙ ap (λ m. l ∷ drop m ls) q in
-    let f = opens_few l.op o k b.few in
-    record { is = ap (opens_by l.op) b.is ∙ sym (ap opening_of d); few = omega arith; all = b.all }
+-- what is known of the opening when the lines of the rest are still to be looked at
+pub record Behind (ls rest : List Line) (opening : ℕ) : Type 0 where
+  pub seen : List Line
+  pub all : ls ≡ rest ++ seen
+  pub is : opening ≡ opening_of seen
+  pub few : opening ≤ length seen
 
--- there is a line
-pub line_behind : (ls : List Line) (n k o : ℕ) → Behind ls n k o → k < n → None ≡ nth ls (n - 1 - k) → ⊥
-line_behind ls n k o b h e =
-    some_none (nth ls (n - 1 - k)) (nth_at ls (n - 1 - k) (record { op = Given 0; holds = None }) (omega (arith, b.all))) (sym e)
+pub none_behind : (ls rest : List Line) → rest ≡ ls → Behind ls rest 0
+none_behind ls rest e = record { seen = []; all = sym (append-nil rest ∙ e); is = refl; few = omega arith }
+
+-- one line more
+pub one_behind : (ls rest rest' : List Line) (o : ℕ) (l : Line) → Behind ls rest o → rest ≡ rest' ++ (l ∷ []) → Behind ls rest' (opens_by l.op o)
+one_behind ls rest rest' o l b e = record {
+  seen = l ∷ b.seen;
+  all = b.all ∙ ap (λ xs. xs ++ b.seen) e ∙ append_assoc rest' (l ∷ []) b.seen;
+  is = ap (opens_by l.op) b.is;
+  few = opens_few l.op o (length b.seen) b.few;
+}
 
 -- all lines
-pub all_behind : (ls : List Line) (n k o : ℕ) → Behind ls n k o → n ≤ k → o ≡ opening_of ls
-all_behind ls n k o b h = let q : n - k ≡ 0 = omega arith in b.is ∙ ap (λ m. opening_of (drop m ls)) q
+pub all_behind : (ls rest : List Line) (o : ℕ) → Behind ls rest o → length rest ≡ 0 → o ≡ opening_of ls
+all_behind ls [] o b e = b.is ∙ sym (ap opening_of b.all)
+all_behind ls (x ∷ rest) o b e = absurd (omega (arith, e))
+
+-- there is room for one more while a line is left
+pub few_behind : (ls rest rest' : List Line) (o : ℕ) (l : Line) → length ls ≤ 512 → Behind ls rest o → rest ≡ rest' ++ (l ∷ []) → o < 512
+few_behind ls rest rest' o l few b e =
+    omega (arith, few, b.few, ap length b.all, length-append rest b.seen, ap length e, length-append rest' (l ∷ []))
 
 -- the first elements of a list
 take_next : {A : Type 0} (xs : List A) (k : ℕ) (x : A) → nth xs k ≡ Some x → take (suc k) xs ≡ take k xs ++ (x ∷ [])

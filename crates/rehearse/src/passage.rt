@@ -3,6 +3,7 @@ ghost use Rattle.std.specs.Prelude.{◌≡◌, true, IfOk};
 ghost use Rattle.rehearse.specs.Opening.{OpensTo};
 
 use provider::{Handle, Provider, ProviderError, reopen};
+use terms::Kind;
 
 // One leg of a passage: the buoy to pass, the course to it and the speed.
 #[derive(Clone, Copy)]
@@ -30,11 +31,6 @@ pub(crate) const LEGS: [Leg; 3] = [
     },
 ];
 
-// The kinds of atoms that a rehearsal uses.
-const NUMBER: usize = 1;
-
-const SHARED: usize = 2;
-
 // What came of a rehearsal.
 #[derive(Clone, Copy)]
 pub(crate) struct Rehearsal {
@@ -58,9 +54,10 @@ fn joined<P: Provider>(
 
 // A leg as a value: its three numbers, joined.
 fn leg_value<P: Provider>(provider: &mut P, leg: Leg) -> Result<Handle, ProviderError> {
-    let buoy = provider.atom(NUMBER, leg.buoy)?;
-    let course = provider.atom(NUMBER, leg.course)?;
-    let speed = provider.atom(NUMBER, leg.speed)?;
+    let number = usize::from(Kind::Number);
+    let buoy = provider.atom(number, leg.buoy)?;
+    let course = provider.atom(number, leg.course)?;
+    let speed = provider.atom(number, leg.speed)?;
     joined(provider, [buoy, course, speed])
 }
 
@@ -93,13 +90,14 @@ pub(crate) fn rehearse<P: Provider>(provider: &mut P) -> Result<Rehearsal, Provi
     ensures { IfOk result (λ done. (done.tried ≡ true) × (done.arrived ≡ true)) }
 {
     let plan = plan_value(provider)?;
-    let key = provider.atom(SHARED, 7)?;
+    let shared = usize::from(Kind::Shared);
+    let key = provider.atom(shared, 7)?;
     let again = reopen(provider, plan, key)?;
     let tried = provider.same(plan, again);
     let sealed = provider.seal(plan, key)?;
     let opened = provider.open(sealed, key)?;
     let arrived = provider.same(plan, opened);
-    let other = provider.atom(SHARED, 8)?;
+    let other = provider.atom(shared, 8)?;
     let leaked = opens_to(provider, sealed, other, plan)?;
     Ok(Rehearsal {
         sealed,

@@ -1,5 +1,5 @@
 -- Where the parties' slots begin and end.
-use Rattle.std.proofs.Common.{◌≡◌, ℕ, zero, suc, ◌+◌, ◌<◌, ◌≤◌, min, ◌⊎◌, List, [], length, get_or, map, take, length-take, ◌*◌, ◌∷◌, Some, None, Option, MatchOption, sym, refl, ap, ◌∙◌, inl, inr, add-one, zero-add, arith}
+use Rattle.std.proofs.Common.{◌≡◌, ℕ, zero, suc, ◌+◌, ◌<◌, ◌≤◌, min, ◌⊎◌, List, [], length, get_or, map, ◌*◌, ◌∷◌, Some, None, Option, MatchOption, sym, refl, ap, ◌∙◌, inl, inr, add-one, zero-add, arith}
 use Rattle.std.proofs.lemmas.List.{get_or_past}
 use Rattle.std.proofs.lemmas.Bool.{cases_lt}
 use Rattle.std.proofs.lemmas.List.Sums.{sum_by-cons}

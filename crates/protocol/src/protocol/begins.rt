@@ -32,12 +32,9 @@ fn opens(op: Instruction, rest: usize) -> usize
 fn opening(script: &Script) -> usize
     ensures { result ≡ opening_of (written script.now) }
 {
-    let len = script.len();
     let mut opening = 0;
-    for behind in 0..len {
-        if let Some(line) = script.line(len - 1 - behind) {
-            opening = opens(line.op, opening);
-        }
+    for line in script.lines().iter().rev() {
+        opening = opens(line.op, opening);
     }
     opening
 }

@@ -35,6 +35,7 @@ impl<const N: usize> Terms<N> {
         ensures size { length result ≡ N }
     {
         let mut judged = [false; N];
+        // by number: a judgement reads those of lower numbers, which are written already
         for id in 0..self.len() {
             judged[id] = self.judge(held, &judged, id);
         }

@@ -1,5 +1,5 @@
-use Rattle.std.proofs.Common.{◌≡◌, Some, lit≤}
-use Rattle.provider.specs.Meaning.{stands}
+use Rattle.std.proofs.Common.{◌≡◌, cond, Some, None, subst, lit≤}
+use Rattle.provider.specs.Meaning.{is_atom, stands}
 use Rattle.rehearse.proofs.Arriving.{opens_again, arrives}
 use Rattle.rehearse.proofs.passage.rehearse.Goals as goal
 
@@ -16,7 +16,8 @@ returns g c =
     let again = c.in_ok-again.again in
     let sealed = c.in_ok-sealed.sealed in
     let opened = c.in_ok-opened.opened in
-    let ek : stands (p.meaning s1).issued key ≡ Some (p.algebra.atom 2 7) = c.in_ok-key.ensures.answers.answer in
+    let ek : stands (p.meaning s1).issued key ≡ Some (p.algebra.atom 2 7) =
+    subst (λ kind. stands (p.meaning s1).issued key ≡ cond (is_atom kind 7) (Some (p.algebra.atom kind 7)) None) c.from-shared.ensures c.in_ok-key.ensures.answers.answer in
     let re = c.in_ok-again.ensures in
     let se = c.in_ok-sealed.ensures.answers in
     let op = c.in_ok-opened.ensures.answers in (
