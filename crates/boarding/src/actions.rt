@@ -66,10 +66,7 @@ impl<'a> Rehearsal<'a> {
 
     // Each step: what its sender does, then its receiver.
     pub fn print_steps(&self, rt: &HostRuntime) -> io::Result<()> {
-        for number in 0..self.protocol.steps() {
-            let Some(step) = self.protocol.step(number) else {
-                return Ok(());
-            };
+        for (number, step) in self.protocol.granted_steps().iter().enumerate() {
             println!(rt; "step {number}")?;
             let sending = self.protocol.begin(number, step.sender)..step.sent;
             self.print_part(rt, step.sender, sending)?;

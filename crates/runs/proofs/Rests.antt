@@ -1,5 +1,5 @@
 -- What a loop over tasks keeps: whatever does what is left does the whole.
-use Rattle.std.proofs.Common.{◌≡◌, ℕ, zero, suc, ◌+◌, ◌-◌, ◌<◌, ◌≤◌, min, List, [], ◌∷◌, ◌++◌, length, drop, IfOk, Some, None, Ok, Err, Option, Result, sym, refl, ap, ◌∙◌, subst, add-zero, add_assoc, zero-add, add-one, arith, drop_of_length-le, MatchResult}
+use Rattle.std.proofs.Common.{◌≡◌, ℕ, zero, suc, ◌+◌, ◌-◌, ◌<◌, ◌≤◌, min, List, [], ◌∷◌, ◌++◌, length, drop, IfOk, Some, Ok, Err, Result, sym, refl, ap, ◌∙◌, subst, add-zero, add_assoc, zero-add, add-one, arith, drop_of_length-le, MatchResult}
 use Rattle.provider.specs.Algebra.{Algebra}
 use Rattle.provider.specs.Meaning.{Meaning}
 use Rattle.terms.specs.declared.node.TermNode.{TermNode}
@@ -9,7 +9,7 @@ use Rattle.acting.specs.declared.halt.Halt.{Halt}
 use Rattle.acting.specs.declared.instruction.Part.{Part}
 use Rattle.acting.specs.Acts.{Acting}
 use Rattle.acting.specs.Carrying.{line_act, line_tally, slot_from, between, CarriedOut}
-use Rattle.acting.proofs.Lines.{drop_nth, drop_none}
+use Rattle.acting.proofs.Lines.{drop_nth}
 use Rattle.protocol.specs.declared.step.Step.{Step}
 use Rattle.runs.specs.declared.fault.RunFault.{RunFault}
 use Rattle.runs.specs.declared.task.Task.{Task}
@@ -133,11 +133,8 @@ pub starts_end : (st : State) (n p : ℕ) → n ≤ p → starts_from st p (n - 
 starts_end st n p l = let z : n - p ≡ 0 = omega arith in rw z refl
 
 -- the tasks of the steps from l on
-pub steps_more : (st : State) (ss : List Step) (l : ℕ) (x : Step) (o : Option Step) → o ≡ nth ss l → o ≡ Some x → step_tasks st l (drop l ss) ≡ both_tasks st l x ++ step_tasks st (l + 1) (drop (l + 1) ss)
-steps_more st ss l x o w e = ap (step_tasks st l) (drop_nth ss l x (sym w ∙ e)) ∙ rw add-one refl
-
-pub steps_none : (st : State) (ss : List Step) (l : ℕ) (o : Option Step) → o ≡ nth ss l → o ≡ None → step_tasks st l (drop l ss) ≡ []
-steps_none st ss l o w e = ap (step_tasks st l) (drop_none ss l (sym w ∙ e))
+pub steps_more : (st : State) (ss : List Step) (l : ℕ) (x : Step) → nth ss l ≡ Some x → step_tasks st l (drop l ss) ≡ both_tasks st l x ++ step_tasks st (l + 1) (drop (l + 1) ss)
+steps_more st ss l x e = ap (step_tasks st l) (drop_nth ss l x e) ∙ rw add-one refl
 
 pub steps_end : (st : State) (ss : List Step) (l : ℕ) → length ss ≤ l → step_tasks st l (drop l ss) ≡ []
 steps_end st ss l h = ap (step_tasks st l) (drop_of_length-le ss h)

@@ -38,14 +38,14 @@ fn play_step<P: Provider>(
     readings: &[Handle],
     slots: &mut [Handle],
     number: usize,
-    step: Step,
+    step: &Step,
 ) -> Result<usize, RunFault>
-    ensures whole { TasksOf P.algebra P.meaning protocol.now readings.now (both_tasks (view_of protocol.now) number step) provider.old slots.old result provider.new slots.new }
+    ensures whole { TasksOf P.algebra P.meaning protocol.now readings.now (both_tasks (view_of protocol.now) number step.now) provider.old slots.old result provider.new slots.new }
     ensures few { IfOk result (λ n. n ≤ 1024) }
 {
-    let send = Task::send(protocol, number, step);
+    let send = Task::send(protocol, number, *step);
     let sent = perform(protocol, provider, readings, slots, send)?;
-    let receive = Task::receive(protocol, number, step);
+    let receive = Task::receive(protocol, number, *step);
     let received = perform(protocol, provider, readings, slots, receive)?;
     Ok(sent + received)
 }
@@ -61,10 +61,7 @@ fn play_steps<P: Provider>(
     ensures few { IfOk result (λ n. n ≤ 65536) }
 {
     let mut sames = 0;
-    for number in 0..protocol.steps() {
-        let Some(step) = protocol.step(number) else {
-            return Ok(sames);
-        };
+    for (number, step) in protocol.granted_steps().iter().enumerate() {
         sames += play_step(protocol, provider, readings, slots, number, step)?;
     }
     Ok(sames)

@@ -73,6 +73,13 @@ impl Protocol {
         self.steps.len()
     }
 
+    // The granted steps, in order.
+    pub fn granted_steps(&self) -> &[Step]
+        ensures { result.now ≡ steps_of self.now }
+    {
+        self.steps.as_slice()
+    }
+
     // A granted step.
     pub fn step(&self, number: usize) -> Option<Step>
         ensures { result ≡ nth (steps_of self.now) number }
