@@ -5,7 +5,7 @@ ghost use Rattle.protocol.specs.Stepping.{ShowsGiven, ShowsUsed};
 use crate::protocol::Protocol;
 use freshness::{mark, mark_given};
 
-// Nothing is marked yet.
+// Nothing is marked yet. In place the array would spread its 512 places over what is to be proved.
 fn unmarked() -> [bool; 512]
     ensures size { length result ≡ 512 }
     ensures none { (t : ℕ) → slice_index_or result t false ≡ false }
