@@ -82,11 +82,10 @@ impl<'a> Rehearsal<'a> {
             return Ok(());
         };
         let base = self.slots_before(agent);
-        for slot in range {
-            if let Some(line) = script.line(slot) {
-                print!(rt; "  {}: {slot}: {}", agent_name(agent), Action(line.op))?;
-                self.print_bytes(rt, base.saturating_add(slot))?;
-            }
+        let lines = script.lines().iter().enumerate();
+        for (slot, line) in lines.take(range.end).skip(range.start) {
+            print!(rt; "  {}: {slot}: {}", agent_name(agent), Action(line.op))?;
+            self.print_bytes(rt, base.saturating_add(slot))?;
         }
         Ok(())
     }

@@ -1,18 +1,19 @@
 // A pilot's boarding: the unit asks the shore station, the berth office hands over a key for the two of them, and the passage plan
 // goes out sealed under that key.
 use protocol::Call;
+use terms::{Form, Kind};
 
 // Kinds of names by number.
-const PARTY: usize = 0;
+const PARTY: usize = Kind::Party as usize;
 
-const NUMBER: usize = 1;
+const NUMBER: usize = Kind::Number as usize;
 
-const SHARED_KEY: usize = 2;
+const SHARED_KEY: usize = Kind::Shared as usize;
 
 // Forms of terms by number.
-const PAIR: usize = 0;
+const PAIR: usize = Form::Pair as usize;
 
-const SEALED: usize = 1;
+const SEALED: usize = Form::Sealed as usize;
 
 // Agents by number; the listener is agent 0.
 const UNIT: usize = 1;

@@ -5,6 +5,8 @@ use Rattle.rules.specs.State.{Refusal as RuleRefusal, Told, named, formed, mated
 use Rattle.rules.specs.State as rules
 use Rattle.rules.specs.History.{History, Came, AnsweredRight}
 use Rattle.rules.specs.Theorems.{MissingTold}
+use Rattle.acting.specs.declared.refusal.SessionRefusal.{SessionRefusal}
+use Rattle.acting.specs.declared.refusal.SessionRefusal.TheVariants.{NoMemory}
 use Rattle.protocol.specs.declared.call.Call.{Call}
 use Rattle.protocol.specs.declared.call.Call.TheVariants.{Name, Build, Know, Step, CanBuild}
 use Rattle.protocol.specs.declared.call.Reply.{Reply}
@@ -86,6 +88,6 @@ pub record Performs (calls : List Call) (answers : List (Result Reply Refusal)) 
   pub long : length answers' ≡ length answers
 
 -- they are made exactly if there is an answer for each, else nothing is altered
-abbrev pub PerformsIf : Protocol → List Call → List (Result Reply Refusal) → Bool → Protocol → List (Result Reply Refusal) → Type 0
-PerformsIf p calls answers true p' answers' = (length calls ≤ length answers) × Performs calls answers p' answers'
-PerformsIf p calls answers false p' answers' = (length answers < length calls) × (p' ≡ p) × (answers' ≡ answers)
+abbrev pub PerformsIf : Protocol → List Call → List (Result Reply Refusal) → Result (Unit {0}) SessionRefusal → Protocol → List (Result Reply Refusal) → Type 0
+PerformsIf p calls answers (Ok u) p' answers' = (length calls ≤ length answers) × Performs calls answers p' answers'
+PerformsIf p calls answers (Err e) p' answers' = (e ≡ NoMemory) × (length answers < length calls) × (p' ≡ p) × (answers' ≡ answers)

@@ -2,18 +2,23 @@
 ghost use Rattle.std.specs.Prelude.{◌≡◌, ◌≤◌, length};
 ghost use Rattle.compiled.specs.Histories.{Performs, PerformsIf};
 
+use acting::SessionRefusal;
 use protocol::{Answer, Call, Protocol};
 
 // Makes the calls in order on a blanked protocol, with their answers at the front of the lent list. With fewer answers lent than calls
 // nothing is altered.
-pub fn perform_all(protocol: &mut Protocol, calls: &[Call], answers: &mut [Answer]) -> bool
+pub fn perform_all(
+    protocol: &mut Protocol,
+    calls: &[Call],
+    answers: &mut [Answer],
+) -> Result<(), SessionRefusal>
     ensures { PerformsIf protocol.old calls.now answers.old result protocol.new answers.new }
 {
     if answers.len() < calls.len() {
-        return false;
+        return Err(SessionRefusal::NoMemory);
     }
     make_calls(protocol, calls, answers);
-    true
+    Ok(())
 }
 
 // The calls in order, where there is an answer for each.

@@ -2,7 +2,6 @@
 ghost use Rattle.compiled.specs.Compiled.{Compiled};
 
 use crate::calls::perform_all;
-use acting::SessionRefusal;
 use protocol::{Answer, Call, Protocol};
 use provider::{Handle, Provider};
 use runs::{Played, RunFault, run};
@@ -18,9 +17,6 @@ pub fn compile_and_run<P: Provider>(
 ) -> Result<Played, RunFault>
     ensures { Compiled P.algebra P.meaning calls.now protocol.old answers.old provider.old readings.old slots.old result protocol.new answers.new provider.new readings.new slots.new }
 {
-    if perform_all(protocol, calls, answers) {
-        run(protocol, provider, readings, slots)
-    } else {
-        Err(SessionRefusal::NoMemory.into())
-    }
+    perform_all(protocol, calls, answers)?;
+    run(protocol, provider, readings, slots)
 }

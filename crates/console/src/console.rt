@@ -82,10 +82,9 @@ impl Console {
     fn show_term(&self, handle: Handle) -> Answer
         ensures { TermShown self.now handle result }
     {
-        match self.symbolic.term(handle) {
-            Some(node) => Answer::Term(node),
-            None => Answer::Unissued,
-        }
+        self.symbolic
+            .term(handle)
+            .map_or(Answer::Unissued, Answer::Term)
     }
 
     fn show(&mut self, handle: Handle) -> Option<Answer>
@@ -155,7 +154,7 @@ impl Console {
 // Writes a term by its kind and number, or by the handles of its parts.
 fn write_term<W: Write>(node: TermNode, out: &mut W) -> io::Result<()> {
     match node {
-        TermNode::Name(kind, id) => writeln!(out, "atom {} {id}", kind as u8),
+        TermNode::Name(kind, id) => writeln!(out, "atom {} {id}", usize::from(kind)),
         TermNode::Built(Form::Pair, a, b) => writeln!(out, "pair {a} {b}"),
         TermNode::Built(Form::Sealed, a, b) => writeln!(out, "sealed {a} {b}"),
         TermNode::Built(Form::Digest, a, b) => writeln!(out, "digest {a} {b}"),

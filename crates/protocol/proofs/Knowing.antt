@@ -1,5 +1,5 @@
 -- Initial knowledge.
-use Rattle.std.proofs.Common.{◌≡◌, Some, ℕ, ◌<◌, ◌≤◌, true, false, List, [], ◌∷◌, map, length, set, Ok, Err, sym, refl, ap, ◌∙◌, arith, le-ltb, lt-ltb}
+use Rattle.std.proofs.Common.{◌≡◌, Result, MatchResult, subst, Some, ℕ, ◌<◌, ◌≤◌, true, false, List, [], ◌∷◌, map, length, set, Ok, Err, sym, refl, ap, ◌∙◌, arith, le-ltb, lt-ltb}
 use Rattle.std.specs.Prelude.{slice_set}
 use Rattle.bounded.specs.Items.{items}
 use Rattle.std.proofs.lemmas.List.{map-set}
@@ -20,7 +20,8 @@ use Rattle.rules.specs.State as rules
 use Rattle.protocol.specs.declared.call.Reply.TheVariants.{Done}
 use Rattle.protocol.specs.declared.protocol.Protocol.{Protocol}
 use Rattle.protocol.specs.declared.refusal.Refusal.TheVariants as refusals
-use Rattle.protocol.specs.Knowing.{Learned}
+use Rattle.protocol.specs.declared.refusal.Refusal.{Refusal}
+use Rattle.protocol.specs.Knowing.{Learned, Learns}
 use Rattle.protocol.specs.Outcome.{Performed}
 use Rattle.protocol.specs.States.{are_all_known, scripts_known, steps_known, state_by}
 use Rattle.protocol.specs.View.{lines_of, steps_of, view_of}
@@ -71,7 +72,7 @@ module _ (c : Protocol) (p n : ℕ) where
             let g = none_yet (view_of c).steps (omega (arith, early, steps_are c)) in
             rw (e, f, g) refl
 
-        pub know_full : (e : ScriptError) → Effects (listed c.terms) (knows (view (listed c.terms) x) (tree (listed c.terms) n)) (Err e)
+        know_full : (e : ScriptError) → Effects (listed c.terms) (knows (view (listed c.terms) x) (tree (listed c.terms) n)) (Err e)
             → Performed (view_of c) (KNOW p n) (Err (refusals.ScriptFull p)) (view_of c)
         know_full Full y =
             let l = lt-ltb 512 (length (knows (view (listed c.terms) x) (tree (listed c.terms) n))) y in
@@ -79,7 +80,7 @@ module _ (c : Protocol) (p n : ℕ) where
             record { answer = rw w refl; after = rw w refl }
         know_full (Missing m) y = absurd y
 
-        pub know_granted : (y : Script) → Effects (listed c.terms) (knows (view (listed c.terms) x) (tree (listed c.terms) n)) (Ok y) → Learned c p n y
+        know_granted : (y : Script) → Effects (listed c.terms) (knows (view (listed c.terms) x) (tree (listed c.terms) n)) (Ok y) → Learned c p n y
         know_granted y w =
             let l = le-ltb 512 (length (view (listed c.terms) y)) (omega (arith, length_view (tree (listed c.terms)) (written y), written_few y)) in
             record {
@@ -87,6 +88,12 @@ module _ (c : Protocol) (p n : ℕ) where
               performs = learning ∙ ap (learns (view_of c) p n) (sym w.0) ∙ rw l refl;
               all_known = w.1;
             }
+
+        -- what the effect answers, as the protocol's
+        pub know_learned : (r : Result Script ScriptError) (o : Result Script Refusal) → Effects (listed c.terms) (knows (view (listed c.terms) x) (tree (listed c.terms) n)) r
+            → MatchResult r (λ y. o ≡ Ok y) (λ e. o ≡ Err (refusals.ScriptFull p)) → Learns c p n o
+        know_learned (Ok y) o w is = subst (Learns c p n) (sym is) (know_granted y w)
+        know_learned (Err e) o w is = subst (Learns c p n) (sym is) (know_full e w)
 
 -- another script in an agent's place
 module _ (c : Protocol) (p n : ℕ) (y : Script) (w : Learned c p n y) (ss : List Script) (is : ss ≡ slice_set (items c.scripts) p y) where

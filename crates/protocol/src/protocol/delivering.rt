@@ -63,26 +63,24 @@ impl Protocol {
         ensures { Delivers self.now sender receiver message result }
     {
         let scripts = self.scripts.as_slice();
-        let sent = match self.sent(sender, message, delivery.address) {
-            Ok(script) => script,
-            Err(error) => return Err(refused_send(error, sender)),
-        };
-        let Ok(received) = receive(&scripts[receiver], &self.terms, delivery.from, message) else {
-            return Err(Refusal::ScriptFull(receiver));
-        };
-        match overhear(
+        let sent = self
+            .sent(sender, message, delivery.address)
+            .map_err(|error| refused_send(error, sender))?;
+        let received = receive(&scripts[receiver], &self.terms, delivery.from, message).map_err(
+            |_| Refusal::ScriptFull(receiver),
+        )?;
+        let heard = overhear(
             &scripts[LISTENER],
             &self.terms,
             delivery.from,
             delivery.to,
             message,
-        ) {
-            Ok(heard) => Ok(Delivered {
-                sent,
-                received,
-                heard,
-            }),
-            Err(_) => Err(Refusal::ScriptFull(LISTENER)),
-        }
+        )
+        .map_err(|_| Refusal::ScriptFull(LISTENER))?;
+        Ok(Delivered {
+            sent,
+            received,
+            heard,
+        })
     }
 }

@@ -25,10 +25,7 @@ impl Protocol {
         if self.steps() > 0 {
             return Err(Refusal::TooLate);
         }
-        match know(script, &self.terms, term) {
-            Ok(learned) => Ok(learned),
-            Err(_) => Err(Refusal::ScriptFull(agent)),
-        }
+        know(script, &self.terms, term).map_err(|_| Refusal::ScriptFull(agent))
     }
 
     // A term that an agent has before the first step.
