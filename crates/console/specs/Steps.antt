@@ -12,7 +12,7 @@ use Rattle.symbolic_provider.specs.Records.{Recorded}
 use Rattle.symbolic_provider.specs.State.{fits_of as terms_fit, issued_of as terms_issued, meaning_of as terms_meaning}
 use Rattle.symbolic_provider.specs.Values.{term_algebra}
 use Rattle.console.specs.declared.answer.Answer.{Answer}
-use Rattle.console.specs.declared.answer.Answer.TheVariants.{Done, Made, Said, Unissued, Bytes as ShownBytes, Term}
+use Rattle.console.specs.declared.answer.Answer.TheVariants.{Done, Made, Said, Bytes as ShownBytes, Term}
 use Rattle.console.specs.declared.call.Call.{Call}
 use Rattle.console.specs.declared.call.Call.TheVariants.{ChooseBytes, ChooseSymbolic, Make, Fits, Same, Show}
 use Rattle.console.specs.declared.console.Chosen.{Chosen}
@@ -63,21 +63,17 @@ pub record Kept (s t : Console) : Type 0 where
 
 -- the value of an issued handle stands at the front of what is shown
 abbrev pub Shown : Option (List ℕ) → Answer → List ℕ → Type 0
-Shown None a shown = a ≡ Unissued
-Shown (Some v) a shown = (a ≡ ShownBytes (length v)) × (take (length v) shown ≡ v)
+Shown None a shown = a ≡ ShownBytes None
+Shown (Some v) a shown = (a ≡ ShownBytes (Some (length v))) × (take (length v) shown ≡ v)
 
 abbrev pub BytesShown : Console → ℕ → Answer → Console → Type 0
 BytesShown s h a t = Shown (stands (bytes_issued s.bytes) h) a t.shown × Kept s t
-
-abbrev pub told : Option TermNode → Answer
-told None = Unissued
-told (Some r) = Term r
 
 -- the term of an issued handle is told by its record
 pub record TermShown (s : Console) (h : ℕ) (a : Answer) : Type 0 where
   pub node : Option TermNode
   pub recorded : Recorded (terms_issued s.symbolic) h node
-  pub tells : a ≡ told node
+  pub tells : a ≡ Term node
 
 abbrev pub ShownBy : Option Chosen → Console → ℕ → Option Answer → Console → Type 0
 ShownBy None s h a t = (a ≡ None) × (t ≡ s)

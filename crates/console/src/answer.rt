@@ -9,10 +9,8 @@ pub enum Answer {
     // what a making came to
     Made(Result<Handle, ProviderError>),
     Said(bool),
-    // how many bytes the shown value has
-    Bytes(usize),
-    // the shown term by its name or by the handles of its parts
-    Term(TermNode),
-    // what was to be shown was never issued
-    Unissued,
+    // how many bytes the shown value has, if it was issued
+    Bytes(Option<usize>),
+    // the shown term by its name or by the handles of its parts, if it was issued
+    Term(Option<TermNode>),
 }

@@ -73,18 +73,16 @@ impl Console {
         ensures { BytesShown self.old handle result self.new }
     {
         match self.bytes.read(handle, &mut self.shown) {
-            Ok(len) => Answer::Bytes(len),
+            Ok(len) => Answer::Bytes(Some(len)),
             // no value is too long to be shown
-            Err(_) => Answer::Unissued,
+            Err(_) => Answer::Bytes(None),
         }
     }
 
     fn show_term(&self, handle: Handle) -> Answer
         ensures { TermShown self.now handle result }
     {
-        self.symbolic
-            .term(handle)
-            .map_or(Answer::Unissued, Answer::Term)
+        Answer::Term(self.symbolic.term(handle))
     }
 
     fn show(&mut self, handle: Handle) -> Option<Answer>
@@ -130,14 +128,13 @@ impl Console {
         match answer {
             Some(Answer::Done) => writeln!(out, "ok"),
             Some(Answer::Made(Ok(handle))) => writeln!(out, "{handle}"),
-            Some(Answer::Made(Err(ProviderError::Wrong)) | Answer::Unissued) => writeln!(
-                out,
-                "wrong"
-            ),
+            Some(
+                Answer::Made(Err(ProviderError::Wrong)) | Answer::Bytes(None) | Answer::Term(None),
+            ) => writeln!(out, "wrong"),
             Some(Answer::Made(Err(ProviderError::Full))) => writeln!(out, "full"),
             Some(Answer::Said(yes)) => writeln!(out, "{}", if yes { "yes" } else { "no" }),
-            Some(Answer::Bytes(len)) => self.write_bytes(len, out),
-            Some(Answer::Term(node)) => write_term(node, out),
+            Some(Answer::Bytes(Some(len))) => self.write_bytes(len, out),
+            Some(Answer::Term(Some(node))) => write_term(node, out),
             None => writeln!(out, "unread"),
         }
     }
