@@ -1,9 +1,8 @@
 // Every term's handle, in number order.
-ghost use Rattle.std.specs.Prelude.{◌≡◌, length};
+ghost use Rattle.std.specs.Prelude.{length};
 ghost use Rattle.acting.specs.Acts.{Acts};
 ghost use Rattle.acting.specs.Loading.{node_act, Loads};
 ghost use Rattle.acting.specs.Standing.{KeptOutside, Bounded, LoadStands};
-ghost use Rattle.terms.specs.Node.{kind_number};
 ghost use Rattle.terms.specs.Listed.{listed};
 
 use crate::halt::Halt;

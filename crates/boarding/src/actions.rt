@@ -3,6 +3,7 @@ use crate::boarding::{AGENT_NAMES, TERM_NAMES};
 use byte_provider::ByteProvider;
 use protocol::{Agent, Protocol};
 use provider::Handle;
+use runs::base_of;
 use scripts::Instruction;
 use std::ops::Range;
 use std::{fmt, io};
@@ -81,7 +82,7 @@ impl<'a> Rehearsal<'a> {
         let Some(script) = self.protocol.script(agent) else {
             return Ok(());
         };
-        let base = self.slots_before(agent);
+        let base = base_of(self.protocol, agent);
         let lines = script.lines().iter().enumerate();
         for (slot, line) in lines.take(range.end).skip(range.start) {
             print!(rt; "  {}: {slot}: {}", agent_name(agent), Action(line.op))?;
@@ -104,12 +105,5 @@ impl<'a> Rehearsal<'a> {
             }
             Err(_) => println!(rt; ": more than 128 bytes"),
         }
-    }
-
-    // How many slots the parties before this one have.
-    fn slots_before(&self, agent: Agent) -> usize {
-        (1..agent)
-            .filter_map(|earlier| self.protocol.script(earlier))
-            .fold(0, |base: usize, script| base.saturating_add(script.len()))
     }
 }

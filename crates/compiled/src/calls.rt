@@ -1,5 +1,5 @@
 // Making a list of calls.
-ghost use Rattle.std.specs.Prelude.{◌≡◌, ◌≤◌, length};
+ghost use Rattle.std.specs.Prelude.{◌≤◌, length};
 ghost use Rattle.compiled.specs.Histories.{Performs, PerformsIf};
 
 use acting::SessionRefusal;

@@ -1,4 +1,3 @@
-pub mod Marking
 pub mod Learning
 pub mod Freshening
 pub mod Judging

@@ -73,7 +73,7 @@ is_mate_of marks (Mate a) = slice_index_or marks a false
 -- a number is marked that was marked, or is fresh, or is the mate of a fresh one
 pub record FreshMarked (ts : List TermNode) (fresh before after : List Bool) : Type 0 where
   pub marks : (t : ℕ) → t < length ts → slice_index_or after t false ≡ (slice_index_or before t false || (slice_index_or fresh t false || is_mate_of fresh (node_at ts t)))
-  pub size : length after ≡ 512
+  pub size : length after ≡ length before
 
 -- none where the message can be composed once the fresh names are written, else the missing term of the rules
 abbrev pub LacksFresh : List TermNode → RuleScript → List Term → Term → Option ℕ → Type 0

@@ -1,8 +1,8 @@
 // Writing the fresh names of a message.
-ghost use Rattle.std.specs.Prelude.{◌≡◌, ◌<◌, length, Some};
+ghost use Rattle.std.specs.Prelude.{◌≡◌, Some};
 ghost use Rattle.rules.specs.Effects.{freshen, freshens};
 ghost use Rattle.scripts.specs.Composing.{IsTerm, NamesTerms, view};
-ghost use Rattle.scripts.specs.View.{Pushed, written};
+ghost use Rattle.scripts.specs.View.{Pushed};
 ghost use Rattle.scripts.specs.Writing.{Writes};
 ghost use Rattle.scripts.specs.declared.instruction.Instruction.TheVariants.{Fresh};
 ghost use Rattle.terms.specs.Listed.{listed};
@@ -10,7 +10,7 @@ ghost use Rattle.terms.specs.Tree.{tree};
 ghost use Rattle.effects.specs.Sending.{MateKnown, MatesKnown, PublicMate, is_public, marked_trees};
 
 use scripts::{Instruction, Script, ScriptError, Slot};
-use terms::{Kind, TermId, TermNode, Terms};
+use terms::{Kind, Marks, TermId, TermNode, Terms};
 
 // Whether a record is that of a public key.
 fn is_public(node: TermNode) -> bool
@@ -53,13 +53,12 @@ fn freshen(script: &mut Script, terms: &Terms<512>, name: TermId) -> Result<(), 
 pub(crate) fn freshen_all(
     script: &mut Script,
     terms: &Terms<512>,
-    fresh: &[bool; 512],
+    fresh: &Marks<512>,
 ) -> Result<(), ScriptError>
     ensures { let ts = listed terms.now in NamesTerms ts script.old → MatesKnown ts fresh.now → Writes ts (freshens (view ts script.old) (marked_trees ts fresh.now)) result script.new }
 {
-    // up to the last term: the marks have places past it
     for name in 0..terms.len() {
-        if fresh[name] {
+        if fresh.contains(name) {
             freshen(script, terms, name)?;
         }
     }

@@ -1,9 +1,9 @@
 // Initial knowledge, and saturating at the end of an effect.
-ghost use Rattle.std.specs.Prelude.{◌<◌, length, Some};
+ghost use Rattle.std.specs.Prelude.{Some};
 ghost use Rattle.rules.specs.Effects.{knows};
 ghost use Rattle.rules.specs.Saturate.{saturate};
 ghost use Rattle.scripts.specs.Composing.{IsTerm, NamesTerms, view};
-ghost use Rattle.scripts.specs.View.{Pushed, written};
+ghost use Rattle.scripts.specs.View.{Pushed};
 ghost use Rattle.scripts.specs.declared.instruction.Instruction.TheVariants.{Given};
 ghost use Rattle.terms.specs.Listed.{listed};
 ghost use Rattle.terms.specs.Tree.{tree};

@@ -21,7 +21,7 @@ mod tests {
     use super::*;
     use scripts::{Instruction, Script};
     use std::test::Fail;
-    use terms::{Form, Kind, Terms};
+    use terms::{Form, Kind, Marks, Terms};
 
     // Whether a script has exactly these instructions.
     fn is_script(script: &Script, expected: &[Instruction]) -> bool {
@@ -37,8 +37,8 @@ mod tests {
         let s = terms.name(Kind::Party, 1)?;
         let j = terms.name(Kind::Number, 2)?;
         let pair = terms.build(Form::Pair, u, j)?;
-        let mut fresh = [false; 512];
-        fresh[j] = true;
+        let mut fresh = Marks::none();
+        fresh.insert(j);
         let start = know(&know(&Script::blank(), &terms, u)?, &terms, s)?;
         let sender = send(&start, &terms, &fresh, pair, 1)?;
         assert!(rt;

@@ -1,10 +1,8 @@
 // What a step writes into the listener's script.
-ghost use Rattle.std.specs.Prelude.{◌<◌, length};
 ghost use Rattle.rules.specs.Effects.{overhears, overheard};
 ghost use Rattle.rules.specs.Script.{FROM, TO};
 ghost use Rattle.scripts.specs.Composing.{IsTerm, NamesTerms, OpNames, view};
 ghost use Rattle.scripts.specs.Lines.{op_of};
-ghost use Rattle.scripts.specs.View.{written};
 ghost use Rattle.scripts.specs.Writing.{Writes};
 ghost use Rattle.terms.specs.Listed.{listed};
 ghost use Rattle.terms.specs.Tree.{tree};

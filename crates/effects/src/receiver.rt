@@ -1,11 +1,9 @@
 // What a step writes into the receiver's script.
-ghost use Rattle.std.specs.Prelude.{◌<◌, length};
 ghost use Rattle.deduction.specs.Term.{Named, party};
 ghost use Rattle.rules.specs.Effects.{received};
 ghost use Rattle.rules.specs.Script.{FROM, RECV};
 ghost use Rattle.rules.specs.Walk.{walk};
 ghost use Rattle.scripts.specs.Composing.{IsTerm, NamesTerms, view};
-ghost use Rattle.scripts.specs.View.{written};
 ghost use Rattle.scripts.specs.Writing.{Wrote};
 ghost use Rattle.terms.specs.Listed.{listed};
 ghost use Rattle.terms.specs.Tree.{tree};

@@ -1,7 +1,7 @@
 // What a step writes into the sender's script.
-ghost use Rattle.std.specs.Prelude.{◌<◌, length, None};
+ghost use Rattle.std.specs.Prelude.{None};
 ghost use Rattle.scripts.specs.Composing.{IsTerm, NamesTerms, view};
-ghost use Rattle.scripts.specs.View.{Pushed, written};
+ghost use Rattle.scripts.specs.View.{Pushed};
 ghost use Rattle.scripts.specs.declared.instruction.Instruction.TheVariants.{Send};
 ghost use Rattle.terms.specs.Listed.{listed};
 ghost use Rattle.terms.specs.Tree.{tree};
@@ -10,7 +10,7 @@ ghost use Rattle.effects.specs.Sending.{MatesKnown, NamesMarked, Sends, marked_t
 use crate::fresh::freshen_all;
 use crate::missing::lacking;
 use scripts::{Instruction, Script, ScriptError, Slot};
-use terms::{TermId, Terms};
+use terms::{Marks, TermId, Terms};
 
 // Writes SEND.
 fn address_to(script: &mut Script, message: Slot, address: Slot) -> Result<Slot, ScriptError>
@@ -24,7 +24,7 @@ fn address_to(script: &mut Script, message: Slot, address: Slot) -> Result<Slot,
 pub fn send(
     script: &Script,
     terms: &Terms<512>,
-    fresh: &[bool; 512],
+    fresh: &Marks<512>,
     message: TermId,
     address: Slot,
 ) -> Result<Script, ScriptError>

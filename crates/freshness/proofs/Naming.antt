@@ -1,6 +1,6 @@
 -- Names that occur in listed terms, and names that stand within numbers.
-use Rattle.std.proofs.Common.{◌≡◌, ℕ, ◌+◌, ◌<◌, ◌≤◌, Bool, true, false, not, ◌&&◌, ◌⊎◌, List, [], ◌∷◌, length, get_or, set, Decides, sym, refl, ap, ◌∙◌, subst, ap₂, inl, inr, arith, length-set, get_or-set_other, get_or-set_same}
-use Rattle.std.proofs.lemmas.Bool.{and_right, cases_eq, cases_lt, eqb-true, eq-eqb, false≢true}
+use Rattle.std.proofs.Common.{◌≡◌, ℕ, ◌<◌, ◌≤◌, Bool, true, false, not, ◌&&◌, ◌⊎◌, List, [], ◌∷◌, length, get_or, Decides, sym, refl, ap, ◌∙◌, subst, ap₂, inl, inr, arith}
+use Rattle.std.proofs.lemmas.Bool.{and_right, cases_lt, eqb-true, eq-eqb, false≢true}
 use Rattle.std.proofs.lemmas.Bool.Decides.{same_from_decides, Decides-like, Decides-or}
 use Rattle.deduction.specs.Term.{Kind, Term, name, built, mate, In, Occurs}
 use Rattle.rules.specs.State.{State, occurs, used, fresh_kind, is_fresh}
@@ -18,16 +18,6 @@ use Rattle.terms.proofs.Within.{occurs_within}
 use Rattle.freshness.specs.Marks.{Only}
 use Rattle.freshness.specs.Occurring.{StandsIn, Occurring}
 use Rattle.freshness.specs.Fresh.{can_kind_be_fresh, can_be_fresh, occurs_in, fresh_by, FreshAmong, FreshNames}
-
--- one number more is judged
-pub judged_more : (f : ℕ → Bool) (xs : List Bool) (n : ℕ) (b : Bool) → n < length xs → ((i : ℕ) → i < n → get_or xs i false ≡ f i)
-    → ((i : ℕ) → n ≤ i → get_or xs i false ≡ false) → b ≡ f n
-    → ((i : ℕ) → i < n + 1 → get_or (set xs n b) i false ≡ f i) × ((i : ℕ) → n + 1 ≤ i → get_or (set xs n b) i false ≡ false) × (length (set xs n b) ≡ length xs)
-judged_more f xs n b l below above e = (λ i h. judged i h (cases_eq i n), λ i h. get_or-set_other xs n i b false (omega arith) ∙ above i (omega arith), length-set xs n b)
-  where
-    judged : (i : ℕ) → i < n + 1 → (i ≡ n) ⊎ (i ≡ n → ⊥) → get_or (set xs n b) i false ≡ f i
-    judged i h (inl q) = ap (λ m. get_or (set xs n b) m false) q ∙ (get_or-set_same xs n b false l ∙ (e ∙ ap f (sym q)))
-    judged i h (inr q) = get_or-set_other xs n i b false q ∙ below i (omega arith)
 
 -- a name that stands within a term occurs in it
 pub within_occurs : (k : Kind) (i : ℕ) (t : Term) → Within (name k i) t → Occurs k i t

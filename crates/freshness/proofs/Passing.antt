@@ -29,14 +29,6 @@ module _ (ts : List TermNode) (marks : List Bool) where
     size = size;
   }
 
-  -- after the pass
-  pub all_passed : (r : List Bool) (n : ℕ) → n ≡ 0 → Passed ts marks r n → Occurring ts marks r
-  all_passed r n e p = record {
-    stands = λ i l. (p.sound i l, p.complete i (omega arith) l);
-    past = p.past;
-    size = p.size;
-  }
-
   module _ (ok : Orderly ts) (few : length ts ≤ 512) (r : List Bool) (n j : ℕ) (next : n ≡ j + 1) (lj : j < length ts) (done : Passed ts marks r n) where
     -- what stands within a marked term is marked itself, or has been reached
     reached : StandsIn ts marks j → (get_or marks j false ≡ true) ⊎ (get_or r j false ≡ true)

@@ -3,15 +3,13 @@
 
 #![tactic(auto)]
 
-ghost use Rattle.std.specs.Prelude.{◌<◌};
-
 mod naive;
 mod random;
 
 use naive::Recursion;
 use random::Random;
-use std::{array, io};
-use terms::{Form, Kind, TermId, Terms};
+use std::io;
+use terms::{Form, Kind, Marks, TermError, TermId, Terms};
 
 const PLACES: usize = 24;
 
@@ -34,13 +32,15 @@ fn random_table(random: &mut Random) -> Terms<PLACES> {
     terms
 }
 
-fn random_held(random: &mut Random) -> [bool; PLACES] {
+fn random_held(random: &mut Random) -> Marks<PLACES> {
     let one_in = 2 + random.below(4);
-    array::from_fn(
-        |_| -> bool
-            requires { 0 < one_in }
-        { random.below(one_in) == 0 },
-    )
+    let mut held = Marks::none();
+    for term in 0..PLACES {
+        if random.below(one_in) == 0 {
+            held.insert(term);
+        }
+    }
+    held
 }
 
 // How many terms of one random table the two agree on, or None where they differ.
@@ -51,35 +51,36 @@ fn agree(random: &mut Random) -> Option<usize> {
         terms: &terms,
         held: &held,
     };
-    for (id, composable) in terms.composable(&held).iter().enumerate() {
-        if *composable != recursion.composes(id, PLACES)
-            || terms.first_missing(&held, id) != recursion.misses(id, PLACES)
-        {
-            return None;
-        }
-    }
-    Some(terms.len())
+    let composable = terms.composable(&held);
+    let same = (0..PLACES).all(|id| {
+        composable.contains(id) == recursion.composes(id, PLACES)
+            && terms.first_missing(&held, id) == recursion.misses(id, PLACES)
+    });
+    same.then_some(terms.len())
 }
 
 // What is missing in 500 nested pairs, each of the one before with itself: a recursion would visit the innermost name 2^500 times.
-fn missing_in_nested_pairs(held: bool) -> Option<TermId> {
+fn missing_in_nested_pairs(held: bool) -> Result<Option<TermId>, TermError> {
     let mut terms: Terms<512> = Terms::blank();
-    let mut marks = [false; 512];
-    marks[0] = held;
-    let mut last = terms.name(Kind::Number, 0).unwrap_or(0);
-    for _ in 0..500 {
-        last = terms.build(Form::Pair, last, last).unwrap_or(0);
+    let mut last = terms.name(Kind::Number, 0)?;
+    let mut marks = Marks::none();
+    if held {
+        marks.insert(last);
     }
-    terms.first_missing(&marks, last)
+    for _ in 0..500 {
+        last = terms.build(Form::Pair, last, last)?;
+    }
+    Ok(terms.first_missing(&marks, last))
 }
 
 fn print_nested(rt: &HostRuntime, held: bool) -> io::Result<()> {
     let which = if held { "held" } else { "not held" };
     match missing_in_nested_pairs(held) {
-        Some(term) => println!(rt;
+        Ok(Some(term)) => println!(rt;
             "500 nested pairs, the innermost name {which}: term {term} is missing"
         ),
-        None => println!(rt; "500 nested pairs, the innermost name {which}: composable"),
+        Ok(None) => println!(rt; "500 nested pairs, the innermost name {which}: composable"),
+        Err(_) => println!(rt; "500 nested pairs are refused"),
     }
 }
 

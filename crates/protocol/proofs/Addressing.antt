@@ -32,9 +32,6 @@ module _ (c : Protocol) where
   view_at p x e = sym (nth_is (view_of c).scripts p (view (listed c.terms) x) [] (state_script c p x e))
 
   module _ (a b n : ℕ) where
-    pub no_sender : length (lines_of c) ≤ a → Performed (view_of c) (STEP a b n) (Err refusals.Unknown) (view_of c)
-    no_sender l = let e = state_no_script c a l in record { answer = rw e refl; after = rw e refl }
-
     pub no_receiver : length (lines_of c) ≤ b → Performed (view_of c) (STEP a b n) (Err refusals.Unknown) (view_of c)
     no_receiver l = go (nth (view_of c).scripts a) refl
       where

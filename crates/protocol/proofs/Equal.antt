@@ -1,5 +1,5 @@
 -- Protocols with the same terms, scripts and steps are the same.
-use Rattle.std.proofs.Common.{◌≡◌, true, map, Ok, Err, Result}
+use Rattle.std.proofs.Common.{◌≡◌, true, map}
 use mathlib.Core.Bool.{Bool-set}
 use mathlib.Core.HLevel.{is_prop→PathP}
 use mathlib.Core.Logic.{∥∥₁_prop}
@@ -7,10 +7,8 @@ use Rattle.bounded.specs.Items.{items}
 use Rattle.scripts.specs.View.{written}
 use Rattle.terms.specs.Listed.{listed}
 use Rattle.protocol.specs.declared.protocol.Protocol.{Protocol}
-use Rattle.protocol.specs.declared.refusal.Refusal.{Refusal}
 use Rattle.protocol.specs.States.{are_all_known, state_by}
 use Rattle.protocol.specs.Reached.{Reached}
-use Rattle.protocol.specs.Outcome.{Unaltered}
 
 pub same_protocol : (p q : Protocol) → q.terms ≡ p.terms → q.scripts ≡ p.scripts → q.steps ≡ p.steps → q ≡ p
 same_protocol p q e f g = λ i. record {
@@ -21,8 +19,3 @@ same_protocol p q e f g = λ i. record {
       (λ j. Bool-set (are_all_known (listed (e j)) (map written (items (f j))) (items (g j))) true) q.known p.known i;
   came = is_prop→PathP (λ j. Reached (state_by (listed (e j)) (map written (items (f j))) (items (g j)))) (λ j. ∥∥₁_prop) q.came p.came i;
 }
-
--- where the terms alone may differ, and a refusal leaves these
-pub unaltered_terms : {A : Type 0} (r : Result A Refusal) (p q : Protocol) → q.scripts ≡ p.scripts → q.steps ≡ p.steps → Unaltered r p.terms q.terms → Unaltered r p q
-unaltered_terms (Ok a) p q f g h = tt
-unaltered_terms (Err e) p q f g h = same_protocol p q h f g

@@ -25,7 +25,7 @@ use Rattle.protocol.specs.Knowing.{Learned, Learns}
 use Rattle.protocol.specs.Outcome.{Performed}
 use Rattle.protocol.specs.States.{are_all_known, scripts_known, steps_known, state_by}
 use Rattle.protocol.specs.View.{lines_of, steps_of, view_of}
-use Rattle.protocol.proofs.Asking.{state_no_script, state_script}
+use Rattle.protocol.proofs.Asking.{state_script}
 use Rattle.protocol.specs.Reached.{Reached}
 use Rattle.rules.proofs.Nth.{nth_below}
 use Rattle.protocol.proofs.Known.{and_both, set_known, all_scripts, all_steps}
@@ -43,9 +43,6 @@ some_already [] l = absurd (omega arith)
 some_already (x ∷ xs) l = refl
 
 module _ (c : Protocol) (p n : ℕ) where
-  pub know_no_agent : length (lines_of c) ≤ p → Performed (view_of c) (KNOW p n) (Err refusals.Unknown) (view_of c)
-  know_no_agent l = let e = state_no_script c p l in record { answer = rw e refl; after = rw e refl }
-
   module _ (x : Script) (at : nth (lines_of c) p ≡ Some (written x)) where
     here : nth (view_of c).scripts p ≡ Some (view (listed c.terms) x)
     here = state_script c p x at

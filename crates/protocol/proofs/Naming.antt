@@ -1,22 +1,20 @@
 -- Naming, as the rules have it.
-use Rattle.std.proofs.Common.{◌≡◌, ℕ, ◌+◌, ◌<◌, ◌≤◌, Bool, true, false, cond, ltb, List, [], ◌∷◌, ◌++◌, map, length, Some, Ok, Err, Result, sym, refl, ap, ◌∙◌, subst, ap₂, inl, inr, arith, length-append, ltb-false}
+use Rattle.std.proofs.Common.{◌≡◌, ℕ, ◌+◌, ◌<◌, ◌≤◌, Bool, true, false, cond, ltb, List, [], ◌∷◌, ◌++◌, map, length, Some, Ok, Err, Result, sym, refl, ap, ◌∙◌, subst, ap₂, arith, length-append, ltb-false}
 use mathlib.Core.Logic.{∥∥₁_elim}
 use mathlib.Core.HLevel.{⊥_prop}
 use lib.ListN.{length-map}
 use Rattle.std.proofs.lemmas.List.{length_push, get_or_push, get_or_at, append-nil, append_assoc, map_push}
-use Rattle.deduction.specs.Term.{party, public, Term, name, mate, Asymmetric}
+use Rattle.deduction.specs.Term.{party, public, Term, name, mate}
 use Rattle.terms.specs.declared.node.Kind.{Kind}
 use Rattle.terms.specs.declared.node.Kind.TheVariants.{Party, Number, Shared, Public, Table, Function}
 use Rattle.terms.specs.declared.node.TermNode.{TermNode}
 use Rattle.terms.specs.declared.node.TermNode.TheVariants.{Name, Mate}
-use Rattle.terms.specs.declared.node.TermError.{TermError}
-use Rattle.terms.specs.declared.node.TermError.TheVariants.{Unknown as NoTerm, WrongKind as WrongPart, Full}
 use Rattle.terms.specs.declared.table.Terms.{Terms}
-use Rattle.terms.specs.Node.{node_at, mate_case, Lower}
+use Rattle.terms.specs.Node.{node_at, Lower}
 use Rattle.terms.specs.Tree.{tree, kind_of as kindTree}
-use Rattle.terms.specs.Listed.{listed, Inserted, Mated}
-use Rattle.terms.specs.Outcome.{Absent, Keeps, Inserts, MatesBy}
-use Rattle.terms.proofs.Trees.{tree_at, inside_lower}
+use Rattle.terms.specs.Listed.{listed}
+use Rattle.terms.specs.Outcome.{Absent, Keeps}
+use Rattle.terms.proofs.Trees.{tree_at}
 use Rattle.std.specs.Prelude.{OnOk, OnErr}
 use Rattle.bounded.specs.declared.list.BoundedVec.{BoundedVec}
 use Rattle.bounded.specs.declared.list.Full.{Full as NoPlace}
@@ -37,7 +35,7 @@ use Rattle.protocol.specs.declared.call.Reply.TheVariants.{Number as NUMBER}
 use Rattle.protocol.specs.States.{are_all_known, trees, state_by, scripts_known, steps_known}
 use Rattle.protocol.specs.View.{view_of, lines_of, steps_of}
 use Rattle.protocol.specs.Outcome.{Performed, number}
-use Rattle.protocol.specs.Adding.{places, opens, admitted, new_nodes, party_lines, accepted}
+use Rattle.protocol.specs.Adding.{places, opens, admitted, new_nodes, party_lines}
 use Rattle.protocol.proofs.Trees.{length_trees, nth_trees}
 use Rattle.protocol.proofs.Growing.{both, below_lines, scripts_later, steps_later, scripts_known_more, scripts_same, steps_same, trees_more, keeps_append}
 use Rattle.protocol.proofs.Performing.{performed_by}
@@ -55,73 +53,6 @@ name_new c k i l e = ∥∥₁_elim c.came ⊥_prop (λ w. go w.0 w.1)
         let o = (came_stable past (view_of c) came).numbers.own i (kindTree k) (length (listed c.terms))
         (nth_trees (listed c.terms) i l ∙ ap Some is) in
         omega arith
-
--- adding the name to the table
-pub name_added : (t u : Terms 512) (k : Kind) (n : ℕ) (o : Result ℕ TermError) → n ≡ length (listed t) → Absent (listed t) (Name k (length (listed t)))
-    → length (listed t) < 512 → Inserted t (Name k n) o u
-    → (o ≡ Ok (length (listed t))) × (listed u ≡ listed t ++ (Name k (length (listed t)) ∷ []))
-name_added t u k n o e new room i = go o (subst (λ m. Inserts 512 (listed t) (Name k m) o (listed u)) e i.outcome)
-  where
-    go : (o : Result ℕ TermError) → Inserts 512 (listed t) (Name k (length (listed t))) o (listed u)
-        → (o ≡ Ok (length (listed t))) × (listed u ≡ listed t ++ (Name k (length (listed t)) ∷ []))
-    go (Ok m) (h, p, inl w) = absurd (new m w.0.0 w.0.1)
-    go (Ok m) (h, p, inr w) = (ap Ok w.2, w.3)
-    go (Err NoTerm) w = absurd (w.0 tt)
-    go (Err WrongPart) w = absurd (w.0.1 tt)
-    go (Err Full) w = let f = w.0.3 in absurd (omega arith)
-
--- adding the mate of a new public key
-pub mate_added : (u v : Terms 512) (ts : List TermNode) (o : Result ℕ TermError) → listed u ≡ ts ++ (Name Public (length ts) ∷ [])
-    → length ts + 2 ≤ 512 → Mated u (length ts) o v
-    → ((m : ℕ) × (o ≡ Ok m)) × (listed v ≡ listed u ++ (Mate (length ts) ∷ []))
-mate_added u v ts o e room m = go o inserted
-  where
-    size : length (listed u) ≡ length ts + 1
-    size = ap length e ∙ length_push ts (Name Public (length ts))
-
-    there : length ts < length (listed u)
-    there = omega (arith, size)
-
-    node : node_at (listed u) (length ts) ≡ Name Public (length ts)
-    node = ap (λ us. node_at us (length ts)) e ∙ get_or_push ts (Name Public (length ts)) (Name Party 0) (length ts) refl
-
-    inserted : Inserts 512 (listed u) (Mate (length ts)) o (listed v)
-    inserted = subst (λ r. MatesBy 512 (listed u) (length ts) (mate_case r) o (listed v)) node (m.known there)
-
-    is : tree (listed u) (length ts) ≡ name public (length ts)
-    is = tree_at (listed u) u.lower (length ts) (Name Public (length ts)) there node
-
-    go : (o : Result ℕ TermError) → Inserts 512 (listed u) (Mate (length ts)) o (listed v)
-        → ((m : ℕ) × (o ≡ Ok m)) × (listed v ≡ listed u ++ (Mate (length ts) ∷ []))
-    go (Ok m) (h, p, inl w) =
-        let z = inside_lower (listed u) u.lower m (length ts) w.0.0 w.0.1 in
-        let y : m < length (listed u) = w.0.0 in
-        absurd (omega (arith, size))
-    go (Ok m) (h, p, inr w) = ((m, refl), w.3)
-    go (Err NoTerm) w = absurd (w.0 there)
-    go (Err WrongPart) w = absurd (w.0.1 (subst Asymmetric (sym is) refl))
-    go (Err Full) w = let f = w.0.3 in absurd (omega (arith, size))
-
--- a public key is added with its mate
-pub public_added : (t u v : Terms 512) (k : Kind) (n id : ℕ) (o p : Result ℕ TermError) → k ≡ Public → n ≡ length (listed t)
-    → length (listed t) + places k ≤ 512 → Absent (listed t) (Name k (length (listed t))) → Inserted t (Name k n) o u → Ok id ≡ accepted o → Mated u id p v
-    → ((m : ℕ) × (p ≡ Ok m)) × ((id ≡ length (listed t)) × (listed v ≡ listed t ++ new_nodes k id))
-public_added t u v k n id o p ek en room new i eo m =
-    let size : length (listed t) + 2 ≤ 512 = subst (λ j. length (listed t) + places j ≤ 512) ek room in
-    let w = name_added t u k n o en new (omega arith) i in
-    let w0 = w.0 in
-    let ei : id ≡ length (listed t) = cc in
-    let l : listed u ≡ listed t ++ (Name Public (length (listed t)) ∷ []) = w.1 ∙ ap (λ j. listed t ++ (Name j (length (listed t)) ∷ [])) ek in
-    let x = mate_added u v (listed t) p l size (subst (λ j. Mated u j p v) ei m) in (
-      x.0,
-      (
-        ei,
-        x.1
-            ∙ (ap (λ us. us ++ (Mate (length (listed t)) ∷ [])) l
-            ∙ (append_assoc (listed t) (Name Public (length (listed t)) ∷ []) (Mate (length (listed t)) ∷ [])
-            ∙ ap₂ (λ (j : Kind) (a : ℕ). listed t ++ new_nodes j a) (sym ek) (sym ei))),
-      ),
-    )
 
 -- how much a name adds, as the rules have it
 terms_added : (k : Kind) (n : ℕ) → length (new_terms (kindTree k) n) ≡ places k

@@ -163,13 +163,6 @@ pub trait Provider {
     ghost builds: { Builds proper algebra };
 }
 
-// Carries out one making.
-pub fn perform<P: Provider>(provider: &mut P, making: Making) -> Result<Handle, ProviderError>
-    ensures { Answers P.algebra P.meaning provider.old making result provider.new }
-{
-    provider.make(making)
-}
-
 // Seals a content under a key, makes the key's mate and opens with it.
 fn round_trip<P: Provider>(
     provider: &mut P,

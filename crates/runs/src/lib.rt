@@ -13,4 +13,5 @@ mod playing;
 mod task;
 
 pub use fault::{Played, RunFault};
+pub use memory::base_of;
 pub use playing::run;

@@ -6,8 +6,6 @@ ghost use Rattle.terms.specs.Listed.{listed};
 
 use protocol::{Agent, LISTENER, Protocol};
 use provider::Handle;
-use scripts::Script;
-use terms::Terms;
 
 // How many slots a party has: one for each instruction. The listener has none.
 fn own_slots(protocol: &Protocol, agent: Agent) -> usize
@@ -20,8 +18,8 @@ fn own_slots(protocol: &Protocol, agent: Agent) -> usize
     protocol.script(agent).map_or(0, |script| script.len())
 }
 
-// Where a party's slots begin.
-pub(crate) fn base_of(protocol: &Protocol, party: Agent) -> usize
+// Where a party's slots begin: behind those of the parties before it.
+pub fn base_of(protocol: &Protocol, party: Agent) -> usize
     ensures { result ≡ base_of (lines_of protocol.now) party }
 {
     (0..party.min(protocol.agents()))

@@ -4,5 +4,6 @@ pub mod Composing
 pub mod Lacking
 pub mod Judging
 pub mod Taking
+pub mod Searching
 pub mod Writing
 pub mod Walking

@@ -1,5 +1,5 @@
 -- What is taken from a term by numbers is what the rules take.
-use Rattle.std.proofs.Common.{◌≡◌, ℕ, zero, suc, ◌+◌, ◌<◌, ◌≤◌, Bool, true, false, cond, ◌⊎◌, List, [], ◌∷◌, length, get_or, drop, is_some, Some, None, Option, sym, refl, ap, ◌∙◌, subst, inl, inr, add-one, arith, drop-cons}
+use Rattle.std.proofs.Common.{◌≡◌, ℕ, zero, suc, ◌+◌, ◌<◌, ◌≤◌, Bool, true, false, cond, ◌⊎◌, List, [], ◌∷◌, length, get_or, drop, is_some, Some, None, Option, sym, refl, ap, ◌∙◌, subst, inl, inr, add-one, MatchOption, arith, drop-cons}
 use mathlib.Core.Bool.{false≢true}
 use lib.Seq.{drop-nil}
 use Rattle.deduction.specs.Term.{party, number, shared, public, table, function, Term, name, built, mate, opener, Key, Formed}
@@ -189,3 +189,33 @@ drop_all (x ∷ xs) (suc i) l = drop_all xs i (omega arith)
 -- nothing is left past the last slot
 pub nothing_left : (ts : List TermNode) (s : Script) (i : ℕ) → length (written s) ≤ i → take_apart (view ts s) ≡ take_from (view ts s) i (script_of (tree ts) (drop i (written s))) → take_apart (view ts s) ≡ None
 nothing_left ts s i l e = e ∙ ap (λ r. take_from (view ts s) i (script_of (tree ts) r)) (drop_all (written s) i l)
+
+-- what the lowest slot gives that gives something is what is taken
+pub lowest_taking : (ts : List TermNode) (s : Script) → NamesTerms ts s → (r : Option Taking)
+    → MatchOption r
+    ((i : ℕ) → i < length (written s) → Below (length ts) (get_or (written s) i no_line).holds → take_held (view ts s) i (held_of (tree ts) (get_or (written s) i no_line).holds) ≡ None)
+    (λ t. (i : ℕ) × (i < length (written s))
+    × (Below (length ts) (get_or (written s) i no_line).holds → Takes ts (view ts s) (take_held (view ts s) i (held_of (tree ts) (get_or (written s) i no_line).holds)) (Some t))
+    × ((j : ℕ) → j < i → Below (length ts) (get_or (written s) j no_line).holds → take_held (view ts s) j (held_of (tree ts) (get_or (written s) j no_line).holds) ≡ None))
+    → Takes ts (view ts s) (take_apart (view ts s)) r
+lowest_taking ts s k r h = go r h
+  where
+    Nothing : ℕ → Type 0
+    Nothing j = Below (length ts) (get_or (written s) j no_line).holds → take_held (view ts s) j (held_of (tree ts) (get_or (written s) j no_line).holds) ≡ None
+
+    -- where the slots below give nothing, looking goes on from here
+    so_far : (i : ℕ) → i ≤ length (written s) → ((j : ℕ) → j < i → Nothing j) → take_apart (view ts s) ≡ take_from (view ts s) i (script_of (tree ts) (drop i (written s)))
+    so_far zero l none = refl
+    so_far (suc i) l none =
+        let li : i < length (written s) = omega arith in
+        let e = so_far i (omega arith) (λ j u. none j (omega arith)) in
+        rw (← add-one) (nothing_next ts s k i li e (none i (omega arith) (line_below ts s k i li)))
+
+    go : (r : Option Taking)
+        → MatchOption r ((i : ℕ) → i < length (written s) → Nothing i)
+        (λ t. (i : ℕ) × (i < length (written s))
+        × (Below (length ts) (get_or (written s) i no_line).holds → Takes ts (view ts s) (take_held (view ts s) i (held_of (tree ts) (get_or (written s) i no_line).holds)) (Some t))
+        × ((j : ℕ) → j < i → Nothing j))
+        → Takes ts (view ts s) (take_apart (view ts s)) r
+    go None none = nothing_left ts s (length (written s)) (omega arith) (so_far (length (written s)) (omega arith) none)
+    go (Some t) (i, l, here, none) = taken_next ts s k i l (so_far i (omega arith) none) t (here (line_below ts s k i l))

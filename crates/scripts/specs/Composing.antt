@@ -1,5 +1,5 @@
 -- What composing a term does to a script, by the rules.
-use Rattle.std.specs.Prelude.{◌≡◌, ℕ, ◌<◌, Bool, false, ◌||◌, List, [], ◌∷◌, ◌++◌, length, is_some, Some, None, Ok, Err, Option, Result, ◌≢◌, slice_index_or}
+use Rattle.std.specs.Prelude.{◌≡◌, ℕ, ◌<◌, Bool, false, List, [], ◌∷◌, ◌++◌, length, is_some, Some, None, Ok, Err, Option, Result, ◌≢◌, slice_index_or}
 use Rattle.terms.specs.declared.node.TermNode.{TermNode}
 use Rattle.terms.specs.declared.node.TermNode.TheVariants.{Built}
 use Rattle.terms.specs.declared.node.Form.{Form}
@@ -13,7 +13,7 @@ use Rattle.scripts.specs.declared.instruction.Line.{Line}
 use Rattle.scripts.specs.declared.instruction.ScriptError.{ScriptError}
 use Rattle.scripts.specs.declared.instruction.ScriptError.TheVariants.{Full, Missing}
 use Rattle.scripts.specs.declared.script.Script.{Script}
-use Rattle.scripts.specs.Lines.{is_number, slot_of, script_of}
+use Rattle.scripts.specs.Lines.{slot_of, script_of}
 use Rattle.scripts.specs.View.{written}
 
 -- the script as the rules have it, over a table of terms
@@ -88,11 +88,6 @@ Puts ts s t (Err (Missing m)) s' = compose (view ts s) (tree ts t) ≡ None
 abbrev pub Parts : List TermNode → ℕ → Option (Form × ℕ × ℕ) → Type 0
 Parts ts t None = t < length ts → (g : Form) (a b : ℕ) → node_at ts t ≢ Built g a b
 Parts ts t (Some p) = (t < length ts) × (node_at ts t ≡ Built p.0 p.1 p.2) × (p.1 < t) × (p.2 < t)
-
--- the mark of the term that a slot holds, and the others as before
-pub record Marked (ms : List Bool) (h : Option ℕ) (ms' : List Bool) : Type 0 where
-  pub marks : (t : ℕ) → t < 512 → slice_index_or ms' t false ≡ (slice_index_or ms t false || is_number t h)
-  pub size : length ms' ≡ length ms
 
 -- a term is marked exactly if some slot holds it
 pub record HeldMarks (ls : List Line) (ms : List Bool) : Type 0 where

@@ -1,5 +1,5 @@
 -- Composability of numbers and of their trees.
-use Rattle.std.proofs.Common.{◌≡◌, ℕ, zero, suc, ◌<◌, Bool, true, false, cond, ◌⊎◌, ◌↔◌, List, ◌∷◌, length, get_or, replicate, Decides, sym, refl, ap, ◌∙◌, subst, inl, inr, not-suc-le-zero, arith}
+use Rattle.std.proofs.Common.{◌≡◌, ℕ, zero, suc, ◌<◌, Bool, true, false, cond, ◌⊎◌, ◌↔◌, List, ◌∷◌, length, get_or, Decides, sym, refl, ap, ◌∙◌, subst, inl, inr, not-suc-le-zero, arith}
 use Rattle.std.proofs.lemmas.Bool.{cases_eq}
 use Rattle.deduction.specs.Term.{Term, name, built, mate, In}
 use Rattle.deduction.specs.Compose.{Composable}
@@ -113,8 +113,3 @@ module _ (ts : List TermNode) (held : List Bool) where
 
       pub judged_right : (x y : Bool) → x ≡ true → Decides x (ComposableId ts held a) → Decides y (ComposableId ts held b) → Decides y (ComposableId ts held i)
       judged_right x y q da db = (λ w. (composable_built i f a b l e).1 (inr (da.0 q, db.0 w)), λ h. db.1 (both_parts h).1)
-
-pub none_marked : (n i : ℕ) → get_or (replicate n false) i false ≡ false
-none_marked zero i = refl
-none_marked (suc n) zero = refl
-none_marked (suc n) (suc i) = none_marked n i

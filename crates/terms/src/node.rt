@@ -2,9 +2,6 @@
 ghost use Rattle.std.specs.Prelude.{◌≡◌};
 ghost use Rattle.terms.specs.Node.{kind_number, KindAt, FormAt, is_key, is_named, is_asymmetric, parts_fit, mate_case};
 
-use std::error::Error;
-use std::fmt;
-
 // The number of a term, from 0 in order of first appearance.
 pub type TermId = usize;
 
@@ -59,14 +56,6 @@ impl From<Kind> for usize {
     }
 }
 
-impl fmt::Display for UnknownKind {
-    fn fmt<W: fmt::Write>(&self, f: &mut fmt::Formatter<W>) -> fmt::Result {
-        write!(f, "no kind has number {}", self.0)
-    }
-}
-
-impl Error for UnknownKind {}
-
 // A number that no form has.
 #[derive(Clone, Copy, PartialEq, Eq, Debug)]
 pub struct UnknownForm(pub usize);
@@ -86,14 +75,6 @@ impl TryFrom<usize> for Form {
         }
     }
 }
-
-impl fmt::Display for UnknownForm {
-    fn fmt<W: fmt::Write>(&self, f: &mut fmt::Formatter<W>) -> fmt::Result {
-        write!(f, "no form has number {}", self.0)
-    }
-}
-
-impl Error for UnknownForm {}
 
 // One term by the numbers of its parts: a name with its kind and identity, a two-part term, or the mate of a key.
 #[derive(Clone, Copy, PartialEq, Eq, Debug)]

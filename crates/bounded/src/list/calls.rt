@@ -1,5 +1,5 @@
 // What a list answers and how it changes.
-ghost use Rattle.std.specs.Prelude.{◌≡◌, ◌<◌, ◌≤◌, [], ◌∷◌, ◌++◌, length, take, OnOk, OnErr, IfOk, slice_get, slice_set};
+ghost use Rattle.std.specs.Prelude.{◌≡◌, ◌≤◌, [], ◌∷◌, ◌++◌, length, take, OnOk, OnErr, IfOk, slice_get, slice_set};
 ghost use Rattle.bounded.specs.Items.{items};
 
 use super::{BoundedVec, Full};

@@ -1,5 +1,5 @@
 // Naming: a name's identity is its number, a public key comes with its mate, and a party opens the next agent.
-ghost use Rattle.std.specs.Prelude.{◌≡◌, ◌+◌, ◌<◌, ◌≤◌, length};
+ghost use Rattle.std.specs.Prelude.{◌≡◌, ◌+◌, ◌≤◌, length};
 ghost use Rattle.rules.specs.State.{NAME, kind_of};
 ghost use Rattle.terms.specs.declared.node.TermNode.TheVariants.{Name};
 ghost use Rattle.terms.specs.Listed.{listed};

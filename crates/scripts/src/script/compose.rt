@@ -1,12 +1,12 @@
 // Composing a term from what the slots hold.
-ghost use Rattle.std.specs.Prelude.{◌≡◌, length, is_ok, take, if◌then◌else◌};
+ghost use Rattle.std.specs.Prelude.{◌≡◌, is_ok, take, if◌then◌else◌};
 ghost use Rattle.terms.specs.Listed.{listed};
-ghost use Rattle.scripts.specs.Composing.{Grows, HeldMarks, HoldsTerms, IsTerm, Lacks, Marked, NamesTerms, Parts, Puts};
+ghost use Rattle.scripts.specs.Composing.{Grows, HeldMarks, HoldsTerms, IsTerm, Lacks, NamesTerms, Parts, Puts};
 ghost use Rattle.scripts.specs.View.{written};
 
 use crate::instruction::{ScriptError, Slot, builder};
 use crate::script::Script;
-use terms::{Form, TermId, TermNode, Terms};
+use terms::{Form, Marks, TermId, TermNode, Terms};
 
 // The form of a two-part term and its parts, which have lower numbers.
 pub(super) fn parts(terms: &Terms<512>, term: TermId) -> Option<(Form, TermId, TermId)>
@@ -18,25 +18,16 @@ pub(super) fn parts(terms: &Terms<512>, term: TermId) -> Option<(Form, TermId, T
     }
 }
 
-// Marks the term that a slot holds.
-fn mark(marks: &mut [bool; 512], holds: Option<TermId>)
-    ensures { Marked marks.old holds marks.new }
-{
-    if let Some(term) = holds
-        && term < 512
-    {
-        marks[term] = true;
-    }
-}
-
 impl Script {
     // Which terms the slots hold.
-    pub fn held(&self) -> [bool; 512]
+    pub fn held(&self) -> Marks<512>
         ensures { HeldMarks (written self.now) result }
     {
-        let mut marks = [false; 512];
+        let mut marks = Marks::none();
         for line in self.lines() {
-            mark(&mut marks, line.holds);
+            if let Some(term) = line.holds {
+                marks.insert(term);
+            }
         }
         marks
     }

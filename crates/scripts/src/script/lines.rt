@@ -1,7 +1,7 @@
 // Writing instructions, and looking for slots.
 ghost use Rattle.std.specs.Prelude.{◌≡◌, ◌≤◌, [], length, take};
 ghost use Rattle.rules.specs.State.{nth};
-ghost use Rattle.scripts.specs.Lines.{is_number, slot_of};
+ghost use Rattle.scripts.specs.Lines.{slot_of};
 ghost use Rattle.scripts.specs.View.{written, Pushed};
 
 use crate::instruction::{Instruction, Line, ScriptError, Slot};

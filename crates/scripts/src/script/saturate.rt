@@ -11,22 +11,15 @@ ghost use Rattle.scripts.specs.Writing.{ContentTaken, HeldIn, Judged, Longer, Ta
 use crate::instruction::{Instruction, ScriptError, Slot, Taking};
 use crate::script::Script;
 use crate::script::compose::parts;
-use terms::{Form, TermId, Terms};
-
-// Whether a number is marked; past the end none is.
-fn is_marked(marks: &[bool; 512], term: TermId) -> bool
-    ensures { result ≡ slice_index_or marks.now term false }
-{
-    marks.get(term).copied().unwrap_or(false)
-}
+use terms::{Form, Marks, TermId, Terms};
 
 // The half of the pair at a slot that cannot be composed, the left one first.
-fn missing_half(judged: &[bool; 512], slot: Slot, a: TermId, b: TermId) -> Option<Taking>
+fn missing_half(judged: &Marks<512>, slot: Slot, a: TermId, b: TermId) -> Option<Taking>
     ensures { result ≡ half_taken slot a b (slice_index_or judged.now a false) (slice_index_or judged.now b false) }
 {
-    if !is_marked(judged, a) {
+    if !judged.contains(a) {
         Some(Taking::LeftHalf(slot, a))
-    } else if !is_marked(judged, b) {
+    } else if !judged.contains(b) {
         Some(Taking::RightHalf(slot, b))
     } else {
         None
@@ -36,22 +29,23 @@ fn missing_half(judged: &[bool; 512], slot: Slot, a: TermId, b: TermId) -> Optio
 // The content of the sealed term at a slot, where it cannot be composed and its opener can.
 fn missing_content(
     terms: &Terms<512>,
-    judged: &[bool; 512],
+    judged: &Marks<512>,
     slot: Slot,
     content: TermId,
     key: TermId,
 ) -> Option<Taking>
     ensures { ContentTaken (listed terms.now) judged.now slot content key result }
 {
-    if is_marked(judged, content) {
+    if judged.contains(content) {
         return None;
     }
     let opener = terms.opener(key)?;
-    is_marked(judged, opener).then_some(Taking::Content(slot, opener, content))
+    let opens = judged.contains(opener);
+    opens.then_some(Taking::Content(slot, opener, content))
 }
 
 // What is taken from a term at a slot.
-fn take_term(terms: &Terms<512>, judged: &[bool; 512], slot: Slot, term: TermId) -> Option<Taking>
+fn take_term(terms: &Terms<512>, judged: &Marks<512>, slot: Slot, term: TermId) -> Option<Taking>
     ensures { let ts = listed terms.now in (v : RuleScript) → IsTerm ts term → HeldIn ts v → Judged ts v judged.now → Takes ts v (take_term v slot (tree ts term)) result }
 {
     match parts(terms, term)? {
@@ -65,7 +59,7 @@ fn take_term(terms: &Terms<512>, judged: &[bool; 512], slot: Slot, term: TermId)
 // What is taken from what a slot holds.
 fn take_held(
     terms: &Terms<512>,
-    judged: &[bool; 512],
+    judged: &Marks<512>,
     slot: Slot,
     holds: Option<TermId>,
 ) -> Option<Taking>
@@ -76,7 +70,7 @@ fn take_held(
 
 impl Script {
     // Which terms can be composed from what the slots hold.
-    fn judged(&self, terms: &Terms<512>) -> [bool; 512]
+    fn judged(&self, terms: &Terms<512>) -> Marks<512>
         ensures { let ts = listed terms.now in NamesTerms ts self.now → Judged ts (view ts self.now) result }
     {
         terms.composable(&self.held())
@@ -87,12 +81,10 @@ impl Script {
         ensures { let ts = listed terms.now in NamesTerms ts self.now → Takes ts (view ts self.now) (take_apart (view ts self.now)) result }
     {
         let judged = self.judged(terms);
-        for (slot, line) in self.lines().iter().enumerate() {
-            if let Some(taking) = take_held(terms, &judged, slot, line.holds) {
-                return Some(taking);
-            }
-        }
-        None
+        self.lines()
+            .iter()
+            .enumerate()
+            .find_map(|(slot, line)| take_held(terms, &judged, slot, line.holds))
     }
 
     // Composes the opener of a sealed term at a slot, and opens it there.

@@ -1,12 +1,10 @@
 // The three rules that write into a script. A refusal writes nothing.
-ghost use Rattle.std.specs.Prelude.{◌<◌, length};
 ghost use Rattle.rules.specs.Saturate.{saturate};
 ghost use Rattle.rules.specs.Walk.{walk};
 ghost use Rattle.terms.specs.Listed.{listed};
 ghost use Rattle.terms.specs.Tree.{tree};
 ghost use Rattle.scripts.specs.Composing.{Composes, HoldsTerms, IsTerm, NamesTerms, OpNames, view};
 ghost use Rattle.scripts.specs.Lines.{op_of};
-ghost use Rattle.scripts.specs.View.{written};
 ghost use Rattle.scripts.specs.Writing.{Wrote};
 
 use crate::instruction::{Instruction, ScriptError, Slot};

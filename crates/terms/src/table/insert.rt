@@ -1,7 +1,7 @@
 // Adding terms. A term that is there is answered with its number, also when the table is full.
 ghost use Rattle.terms.specs.Outcome.{ReadsPart, Known, Proper, Absent, Checks};
 ghost use Rattle.terms.specs.Listed.{listed, Inserted};
-ghost use Rattle.terms.specs.declared.node.TermNode.TheVariants.{Name, Built, Mate};
+ghost use Rattle.terms.specs.declared.node.TermNode.TheVariants.{Name, Built};
 
 use crate::node::{Form, Kind, TermError, TermId, TermNode, is_asymmetric, parts_fit};
 use crate::table::Terms;

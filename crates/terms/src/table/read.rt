@@ -37,14 +37,18 @@ impl<const N: usize> Terms<N> {
         self.nodes.get(id)
     }
 
+    // The records in the order of their numbers.
+    pub fn nodes(&self) -> &[TermNode]
+        ensures { result.now ≡ listed self.now }
+    {
+        self.nodes.as_slice()
+    }
+
     // The first place of a record.
     fn position(&self, node: TermNode) -> Option<TermId>
         ensures { FoundFirst (listed self.now) node result }
     {
-        self.nodes
-            .as_slice()
-            .iter()
-            .position(|other| *other == node)
+        self.nodes().iter().position(|other| *other == node)
     }
 
     // The number of a record, if it has one.

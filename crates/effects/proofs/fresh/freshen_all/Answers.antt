@@ -1,9 +1,9 @@
-use Rattle.std.proofs.Common.{◌<◌, ◌≤◌, length, arith}
+use Rattle.std.proofs.Common.{◌<◌, ◌≤◌, length, sym, ◌∙◌, arith}
 use Rattle.std.proofs.lemmas.Result.{err_from_is_err_and}
 use Rattle.terms.specs.Listed.{listed}
 use Rattle.effects.proofs.Freshening.{freshen_start, freshened, passed, freshened_stop, freshen_end}
 use Rattle.effects.proofs.fresh.freshen_all.Goals as goal
-use Rattle.effects.proofs.fresh.freshen_all.Goals.{then-fresh-name+in_ok-freshen, else-fresh-name}
+use Rattle.effects.proofs.fresh.freshen_all.Goals.{then-contains+in_ok-freshen, else-contains}
 
 pub loop-name-init : goal.loop-name-init
 loop-name-init c = λ k m. (k, freshen_start (listed c.args.terms.now) c.args.fresh.now c.args.script.now)
@@ -16,8 +16,8 @@ returns-in_err-freshen c =
     let q = err_from_is_err_and c.from_residual.result c.from_residual.ensures.1 in
     λ k m.
     let inv = c.loop-name.invariant k m in
-    rw (q.1, q.2) (freshened_stop ts c.args.fresh.now i li _ c.loop-name.script inv.1 c.freshen.new.script c.in_err-freshen.field-0.0 c.if-fresh-name.true
-    (c.in_err-freshen.ensures li (m i li c.if-fresh-name.true) inv.0))
+    rw (q.1, q.2) (freshened_stop ts c.args.fresh.now i li _ c.loop-name.script inv.1 c.freshen.new.script c.in_err-freshen.field-0.0 (sym c.contains.ensures ∙ c.if-contains.true)
+    (c.in_err-freshen.ensures li (m i li (sym c.contains.ensures ∙ c.if-contains.true)) inv.0))
 
 pub loop-name-preserved : goal.loop-name-preserved
 loop-name-preserved c =
@@ -27,11 +27,11 @@ loop-name-preserved c =
     let li : i < length ts = omega (arith, c.loop-name-test.true, c.len-name-end.ensures.is) in
     λ k m.
     let inv = c.loop-name.invariant k m in
-    elim c.if-fresh-name.branch [
-      | then-fresh-name+in_ok-freshen w ↦
-          let d = w.in_ok-freshen.ensures li (m i li w.if-fresh-name.true) inv.0 in
-          rw w.script-is (d.1, freshened ts f i li _ c.loop-name.script inv.1 w.freshen.new.script w.if-fresh-name.true d.0)
-      | else-fresh-name w ↦ rw w.script-is (inv.0, passed ts f i li _ c.loop-name.script inv.1 w.if-fresh-name.false)
+    elim c.if-contains.branch [
+      | then-contains+in_ok-freshen w ↦
+          let d = w.in_ok-freshen.ensures li (m i li (sym c.contains.ensures ∙ w.if-contains.true)) inv.0 in
+          rw w.script-is (d.1, freshened ts f i li _ c.loop-name.script inv.1 w.freshen.new.script (sym c.contains.ensures ∙ w.if-contains.true) d.0)
+      | else-contains w ↦ rw w.script-is (inv.0, passed ts f i li _ c.loop-name.script inv.1 (sym c.contains.ensures ∙ w.if-contains.false))
     ]
 
 pub returns : goal.returns

@@ -3,7 +3,7 @@ use Rattle.protocol.proofs.Showing.{given_none, given_more, given_all}
 use Rattle.protocol.proofs.protocol.Protocol.given.Goals as goal
 
 pub loop-script-init : goal.loop-script-init
-loop-script-init c = given_none c.args.self.now c.unmarked-marks.result c.unmarked-marks.ensures.size c.unmarked-marks.ensures.none
+loop-script-init c = given_none c.args.self.now c.none-marks.result c.none-marks.ensures.size c.none-marks.ensures.marks
 
 pub loop-script-preserved : goal.loop-script-preserved
 loop-script-preserved c =

@@ -9,7 +9,7 @@ pub loop-step-preserved : goal.loop-step-preserved
 loop-step-preserved c =
     shown_more c.args.self.now c.loop-step.step-index _
     (step_read c.args.self.now _ c.as_slice-step-items.ensures c.loop-step.step-index _ c.loop-step-test.true)
-    c.loop-step.marks c.mark.new.marks c.loop-step.invariant c.mark.ensures
+    c.loop-step.marks c.insert.new.self c.loop-step.invariant (record { marks = c.insert.ensures.marks; size = c.insert.ensures.size })
 
 pub returns : goal.returns
 returns c = record {

@@ -1,0 +1,46 @@
+// Marks of terms: a set of numbers below N, in fixed memory.
+ghost use Rattle.std.specs.Prelude.{◌≡◌, ℕ, ◌<◌, ◌||◌, Bool, false, length, slice_index_or, nat_eq, List};
+
+use crate::node::TermId;
+use std::marker::Model;
+
+// What a contract calls its value is one flag for each number.
+#[derive(Drop)]
+pub struct Marks<const N: usize> {
+    cells: [bool; N],
+}
+
+impl<const N: usize> Model for Marks<N> {
+    ghost Value = { List Bool };
+
+    ghost view = { λ m. m.cells };
+
+    ghost invariant = { λ m. length m.cells ≡ N };
+}
+
+impl<const N: usize> Marks<N> {
+    // No number is marked.
+    pub fn none() -> Marks<N>
+        ensures marks { (t : ℕ) → slice_index_or result t false ≡ false }
+        ensures size { length result ≡ N }
+    {
+        Marks { cells: [false; N] }
+    }
+
+    // Whether a number is marked; from N on none is.
+    pub fn contains(&self, term: TermId) -> bool
+        ensures { result ≡ slice_index_or self.now term false }
+    {
+        self.cells.get(term).copied().unwrap_or(false)
+    }
+
+    // Marks a number below N, and no other.
+    pub fn insert(&mut self, term: TermId)
+        ensures marks { (t : ℕ) → t < N → slice_index_or self.new t false ≡ (slice_index_or self.old t false || nat_eq term t) }
+        ensures size { length self.new ≡ length self.old }
+    {
+        if term < N {
+            self.cells[term] = true;
+        }
+    }
+}
