@@ -1,0 +1,4 @@
+pub mod Lengths
+pub mod Writes
+pub mod Decimal
+pub mod Apart

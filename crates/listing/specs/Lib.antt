@@ -1,0 +1,5 @@
+pub mod Refusals
+pub mod Text
+pub mod Listing
+pub mod Decimal
+pub mod Apart
