@@ -1,0 +1,4 @@
+pub mod Searching
+pub mod Determined
+pub mod Naming
+pub mod Lines

@@ -1,0 +1,11 @@
+pub mod Reading
+pub mod Finishing
+pub mod Tied
+pub mod Unambiguous
+pub mod Depths
+pub mod Judging
+pub mod Stacks
+pub mod Turns
+pub mod Uses
+pub mod Lines
+pub mod Determined
