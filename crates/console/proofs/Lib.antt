@@ -1,4 +1,3 @@
 -- Lemmas that several proofs share.
-pub mod Digits
+pub mod Lending
 pub mod Showing
-pub mod Splitting

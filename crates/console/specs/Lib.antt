@@ -1,4 +1,4 @@
 -- What the console's contracts cite.
-pub mod Calls
+pub mod Sessions
 pub mod Steps
-pub mod Words
+pub mod Workspaces

@@ -1,17 +1,18 @@
 // The console's state and its answers.
-ghost use Rattle.std.specs.Prelude.{◌≡◌, None};
-ghost use Rattle.console.specs.Calls.{call_of};
-ghost use Rattle.console.specs.Steps.{Answered, BytesShown, FitsBy, LineAnswered, MadeBy, SameBy, ShownBy, TermShown};
-ghost use Rattle.console.specs.Words.{split};
+ghost use Rattle.console.specs.Steps.{ActedBy, Answered, BytesShown, FitsBy, LineAnswered, ListedBy, MadeBy, New, SameBy, ShownBy, TermShown};
+ghost use Rattle.console_calls.specs.Calls.{call_of};
+ghost use Rattle.console_calls.specs.Words.{split};
 
 use crate::answer::Answer;
-use crate::call::{Call, read_call};
+use crate::workspace::Workspace;
 use byte_provider::ByteProvider;
-use provider::{Handle, Making, Provider, ProviderError};
-use std::io;
-use std::io::Write;
+use console_calls::{Act, Call, read_call};
+use listing::list;
+use protocol::{Agent, Protocol};
+use provider::{Handle, Making, Provider};
 use symbolic_provider::SymbolicProvider;
-use terms::{Form, TermNode};
+
+mod writing;
 
 // Which provider the calls go to.
 #[derive(Clone, Copy)]
@@ -22,21 +23,25 @@ pub enum Chosen {
 
 #[derive(Drop)]
 pub struct Console {
+    protocol: Protocol,
     chosen: Option<Chosen>,
     bytes: ByteProvider,
     symbolic: SymbolicProvider,
-    // the bytes that were shown last stand at its front
+    workspace: Workspace,
+    // the bytes that were shown or listed last stand at its front
     shown: [u8; 32768],
 }
 
 impl Console {
     pub fn new() -> Self
-        ensures { result.chosen ≡ None }
+        ensures { New result }
     {
         Console {
+            protocol: Protocol::blank(),
             chosen: None,
             bytes: ByteProvider::blank(),
             symbolic: SymbolicProvider::blank(),
+            workspace: Workspace::blank(),
             shown: [0; 32768],
         }
     }
@@ -94,11 +99,34 @@ impl Console {
         }
     }
 
+    // Puts the listing of an agent's script at the front of what is shown.
+    fn list(&mut self, agent: Agent) -> Answer
+        ensures { ListedBy self.old agent (Some result) self.new }
+    {
+        Answer::Listed(list(&self.protocol, agent, &mut self.shown))
+    }
+
+    // What the protocol and the provider do together.
+    fn act(&mut self, act: Act) -> Option<Answer>
+        ensures { ActedBy self.old.chosen self.old act result self.new }
+    {
+        match self.chosen? {
+            Chosen::Bytes => self.workspace.act(&self.protocol, &mut self.bytes, act),
+            Chosen::Symbolic => self.workspace.act(&self.protocol, &mut self.symbolic, act),
+        }
+    }
+
     // Answers a call; none where it needs a provider and none is chosen.
     pub fn answer(&mut self, call: Call) -> Option<Answer>
         ensures { Answered self.old call result self.new }
     {
         match call {
+            Call::Blank => {
+                self.protocol = Protocol::blank();
+                Some(Answer::Done)
+            }
+            Call::Protocol(call) => Some(Answer::Protocol(self.protocol.call(call))),
+            Call::List(agent) => Some(self.list(agent)),
             Call::ChooseBytes => {
                 self.bytes = ByteProvider::blank();
                 self.chosen = Some(Chosen::Bytes);
@@ -113,6 +141,9 @@ impl Console {
             Call::Fits(making) => self.fits(making),
             Call::Same(a, b) => self.same(a, b),
             Call::Show(handle) => self.show(handle),
+            Call::Memory(readings, slots) => self.workspace.lend(readings, slots),
+            Call::NewSession(party) => self.workspace.open_session(party),
+            Call::Act(act) => self.act(act),
         }
     }
 
@@ -121,41 +152,5 @@ impl Console {
         ensures { LineAnswered self.old (call_of (split line.now)) result self.new }
     {
         self.answer(read_call(line)?)
-    }
-
-    // Writes the line of an answer.
-    pub fn write<W: Write>(&self, answer: Option<Answer>, out: &mut W) -> io::Result<()> {
-        match answer {
-            Some(Answer::Done) => writeln!(out, "ok"),
-            Some(Answer::Made(Ok(handle))) => writeln!(out, "{handle}"),
-            Some(
-                Answer::Made(Err(ProviderError::Wrong)) | Answer::Bytes(None) | Answer::Term(None),
-            ) => writeln!(out, "wrong"),
-            Some(Answer::Made(Err(ProviderError::Full))) => writeln!(out, "full"),
-            Some(Answer::Said(yes)) => writeln!(out, "{}", if yes { "yes" } else { "no" }),
-            Some(Answer::Bytes(Some(len))) => self.write_bytes(len, out),
-            Some(Answer::Term(Some(node))) => write_term(node, out),
-            None => writeln!(out, "unread"),
-        }
-    }
-
-    fn write_bytes<W: Write>(&self, len: usize, out: &mut W) -> io::Result<()> {
-        write!(out, "bytes")?;
-        for b in self.shown.iter().take(len) {
-            write!(out, " {b}")?;
-        }
-        writeln!(out)
-    }
-}
-
-// Writes a term by its kind and number, or by the handles of its parts.
-fn write_term<W: Write>(node: TermNode, out: &mut W) -> io::Result<()> {
-    match node {
-        TermNode::Name(kind, id) => writeln!(out, "atom {} {id}", usize::from(kind)),
-        TermNode::Built(Form::Pair, a, b) => writeln!(out, "pair {a} {b}"),
-        TermNode::Built(Form::Sealed, a, b) => writeln!(out, "sealed {a} {b}"),
-        TermNode::Built(Form::Digest, a, b) => writeln!(out, "digest {a} {b}"),
-        TermNode::Built(Form::Entry, a, b) => writeln!(out, "entry {a} {b}"),
-        TermNode::Mate(key) => writeln!(out, "mate {key}"),
     }
 }

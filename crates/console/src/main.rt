@@ -1,7 +1,7 @@
-// Drives the crypto providers from standard input: one call a line, and one answer line for each.
+// Drives a protocol, a crypto provider and sessions from standard input: one call a line, and one answer line for each.
 //
-// A line is words parted by single spaces, with numbers in decimal. A line that is no call, or whose call needs a provider
-// before one is chosen, is answered by `unread`; an empty line by nothing.
+// A line is words parted by single spaces, with numbers in decimal. A line that is no call, whose call needs a provider before one is
+// chosen, or that names a session which is not there, is answered by `unread`; an empty line by nothing.
 
 #![tactic(auto)]
 
@@ -10,10 +10,9 @@ use std::io;
 use std::io::{BufRead, BufReader, BufWriter, Write};
 
 mod answer;
-mod call;
 mod console;
-mod number;
-mod words;
+mod session_state;
+mod workspace;
 
 fn main(rt: HostRuntime) -> io::Result<()> {
     let mut console = Console::new();

@@ -9,6 +9,7 @@ returns-in-Ok c =
     let s = c.args.self.now in (
       shown_value (stands (issued_of s.bytes) c.args.handle) c.in-Ok.len s.shown c.read.new.out c.in-Ok.ensures,
       search rules,
+      search rules,
     )
 
 pub returns-in-Err : goal.returns-in-Err
@@ -16,5 +17,6 @@ returns-in-Err c =
     let s = c.args.self.now in
     let long : 32768 ≤ length s.shown = search rules in (
       shown_none s.bytes c.args.handle s.shown c.read.new.out c.in-Err.field-0 (stands (issued_of s.bytes) c.args.handle) refl long c.in-Err.ensures,
+      search rules,
       search rules,
     )

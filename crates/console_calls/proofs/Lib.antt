@@ -1,0 +1,3 @@
+-- Lemmas that several proofs share.
+pub mod Digits
+pub mod Splitting

@@ -1,0 +1,3 @@
+-- What the calls' contracts cite.
+pub mod Calls
+pub mod Words
