@@ -3,6 +3,7 @@
 import random
 import subprocess
 
+from byte_reference import BYTES
 from console_reference import ONE_OPERAND, TWO_OPERANDS, Console
 
 MAKINGS = ONE_OPERAND + TWO_OPERANDS
@@ -18,7 +19,7 @@ class CallList:
         self.random = random.Random(seed)
         self.console = Console()
         self.lines = []
-        # each with the number of lines up to the one that it answers
+        # each line of an answer, with the number of lines up to the one that it answers
         self.answers = []
 
     @property
@@ -34,7 +35,8 @@ class CallList:
         answer = self.console.answer(line)
         self.lines.append(line)
         if answer is not None:
-            self.answers.append((len(self.lines), answer))
+            # a listing has many lines
+            self.answers += [(len(self.lines), part) for part in answer.split("\n")]
         return answer
 
     # A handle: mostly an issued one, among these mostly a late one.
@@ -93,6 +95,20 @@ def start_with_names(calls):
     calls.make("join 2 3")
     calls.make("seal 6 2")
     calls.make("mate 3")
+
+
+def free_bytes(calls):
+    return BYTES - calls.provider.used
+
+
+def fill_bytes(calls, left_over):
+    """Doubles values until they are too long, then adds copies of these and atoms until few bytes are free."""
+    calls.make("atom 2 1")
+    for _ in range(12):
+        calls.make(f"join {calls.issued - 1} {calls.issued - 1}")
+    for handle in reversed(range(calls.issued)):
+        for _ in range((free_bytes(calls) - left_over) // len(calls.provider.values[handle])):
+            calls.say(f"seal {handle} 0")
 
 
 def shape_of(shapes, seed):

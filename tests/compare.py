@@ -17,8 +17,8 @@ first answer that differs, and both answers are printed, and the exit status is
 
 import sys
 
-from byte_reference import BYTES, HANDLES
-from call_lists import MAKINGS, CallList, asked, batches, compare_all, shape_of, start_with_names
+from byte_reference import HANDLES
+from call_lists import MAKINGS, CallList, asked, batches, compare_all, fill_bytes, free_bytes, shape_of, start_with_names
 from console_reference import PROVIDERS, UNREAD
 
 LISTS = 3200
@@ -70,20 +70,6 @@ def tiny_list(calls):
         word = calls.random.choice(MAKINGS)
         calls.make(calls.making("right" if word == "atom" else word))
     calls.show_all()
-
-
-def free_bytes(calls):
-    return BYTES - calls.provider.used
-
-
-def fill_bytes(calls, left_over):
-    """Doubles values until they are too long, then adds copies of these and atoms until few bytes are free."""
-    calls.make("atom 2 1")
-    for _ in range(12):
-        calls.make(f"join {calls.issued - 1} {calls.issued - 1}")
-    for handle in reversed(range(calls.issued)):
-        for _ in range((free_bytes(calls) - left_over) // len(calls.provider.values[handle])):
-            calls.say(f"seal {handle} 0")
 
 
 def full_bytes_list(calls):

@@ -3,6 +3,8 @@
 import re
 
 from byte_reference import ByteProvider
+from protocol_reference import TERMS, Protocol, Refused
+from session_reference import Readings, Session, run
 from symbolic_reference import SymbolicProvider
 
 PROVIDERS = {"provider bytes": ByteProvider, "provider symbolic": SymbolicProvider}
@@ -10,10 +12,19 @@ PROVIDERS = {"provider bytes": ByteProvider, "provider symbolic": SymbolicProvid
 ONE_OPERAND = ("left", "right", "mate")
 TWO_OPERANDS = ("atom", "join", "seal", "open", "digest", "entry")
 
+# How many sessions there may be, and the slots that may be lent.
+SESSIONS = 16
+SLOTS = 4096
+
 NUMBER = r"([0-9]{1,5})"
 MAKING = rf"(?:({'|'.join(ONE_OPERAND)}) {NUMBER}|({'|'.join(TWO_OPERANDS)}) {NUMBER} {NUMBER})"
 
 UNREAD = "unread"
+
+
+def form(word, operands):
+    """The form of a call: a word and some numbers."""
+    return re.compile(" ".join([word] + [NUMBER] * operands))
 
 
 def numbers(match):
@@ -34,11 +45,32 @@ def yes_no(is_yes):
 class Console:
     def __init__(self):
         self.provider = None
+        self.protocol = Protocol()
+        self.readings = Readings()
+        self.slots_lent = SLOTS
+        self.sessions = []
+        # calls that need no provider
         self.calls = [
-            (re.compile(r"same " + NUMBER + " " + NUMBER), self.same),
-            (re.compile(r"show " + NUMBER), self.show),
+            (form("blank", 0), self.blank),
+            (form("name", 1), self.name),
+            (form("build", 3), self.build),
+            (form("own", 2), self.own),
+            (form("line", 3), self.line),
+            (form("probe", 2), self.probe),
+            (form("list", 1), self.list),
+            (form("memory", 2), self.memory),
+            (form("seat", 1), self.seat),
+        ]
+        self.provider_calls = [
+            (form("same", 2), self.same),
+            (form("show", 1), self.show),
             (re.compile(r"fits " + MAKING), self.fits),
             (re.compile(MAKING), self.make),
+            (form("deal", 0), self.deal),
+            (form("start", 1), self.start),
+            (form("send", 1), self.send),
+            (form("take", 3), self.take),
+            (form("play", 0), self.play),
         ]
 
     def answer(self, line):
@@ -49,10 +81,13 @@ class Console:
         if text in PROVIDERS:
             self.provider = PROVIDERS[text]()
             return "ok"
-        for form, call in self.calls:
-            match = form.fullmatch(text)
-            if match and self.provider is not None and numbers(match) is not None:
-                return call(match)
+        for call_form, call in self.calls + (self.provider_calls if self.provider else []):
+            match = call_form.fullmatch(text)
+            if match and numbers(match) is not None:
+                try:
+                    return call(match)
+                except Refused as refusal:
+                    return " ".join(map(str, ["refused", *refusal.numbers]))
         return UNREAD
 
     def same(self, match):
@@ -66,3 +101,68 @@ class Console:
 
     def make(self, match):
         return str(self.provider.make(*operands(match)))
+
+    def blank(self, _):
+        self.protocol = Protocol()
+        return "ok"
+
+    def name(self, match):
+        return str(self.protocol.name(*numbers(match)))
+
+    def build(self, match):
+        return str(self.protocol.build(*numbers(match)))
+
+    def own(self, match):
+        self.protocol.own(*numbers(match))
+        return "ok"
+
+    def line(self, match):
+        return str(self.protocol.line(*numbers(match)))
+
+    def probe(self, match):
+        return yes_no(self.protocol.probe(*numbers(match)))
+
+    def list(self, match):
+        """The lines of a listing, and how many bytes they have with their line ends."""
+        lines = self.protocol.listing(*numbers(match))
+        return "\n".join([*lines, f"bytes {sum(len(line) + 1 for line in lines)}"])
+
+    def memory(self, match):
+        readings, slots = numbers(match)
+        if readings > TERMS or slots > SLOTS:
+            return UNREAD
+        self.readings.lent, self.slots_lent = readings, slots
+        return "ok"
+
+    @property
+    def means(self):
+        """What every call on a session or a run works with."""
+        return self.protocol, self.provider, self.readings, self.slots_lent
+
+    def deal(self, _):
+        return str(self.readings.load(self.protocol, self.provider))
+
+    def seat(self, match):
+        if len(self.sessions) == SESSIONS:
+            return UNREAD
+        self.sessions.append(Session(*numbers(match)))
+        return str(len(self.sessions) - 1)
+
+    def session_call(self, call, match):
+        session, *handed = numbers(match)
+        if session >= len(self.sessions):
+            return UNREAD
+        return call(self.sessions[session], *self.means, *handed)
+
+    def start(self, match):
+        return str(self.session_call(Session.start, match))
+
+    def send(self, match):
+        answer = self.session_call(Session.send, match)
+        return answer if answer == UNREAD else " ".join(map(str, answer))
+
+    def take(self, match):
+        return str(self.session_call(Session.take, match))
+
+    def play(self, _):
+        return " ".join(map(str, run(*self.means)))
