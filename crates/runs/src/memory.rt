@@ -18,13 +18,20 @@ fn own_slots(protocol: &Protocol, agent: Agent) -> usize
     protocol.script(agent).map_or(0, |script| script.len())
 }
 
-// Where a party's slots begin: behind those of the parties before it.
-pub fn base_of(protocol: &Protocol, party: Agent) -> usize
+// How many slots the parties before a party have.
+fn slots_before(protocol: &Protocol, party: Agent) -> usize
     ensures { result ≡ base_of (lines_of protocol.now) party }
 {
     (0..party.min(protocol.agents()))
         .map(|earlier| own_slots(protocol, earlier))
         .sum()
+}
+
+// Where a party's slots begin.
+pub fn base_of(protocol: &Protocol, party: Agent) -> usize
+    ensures { result ≡ base_of (lines_of protocol.now) party }
+{
+    slots_before(protocol, party)
 }
 
 // Whether there is a reading for every term, and a slot for every instruction of the parties.

@@ -6,7 +6,7 @@ use Rattle.protocol.specs.View.{lines_of}
 use Rattle.protocol.proofs.Reading.{agents_few}
 use Rattle.runs.specs.Memory.{own_slots, base_of}
 use Rattle.runs.proofs.Bases.{base_min, base_sum, base_few}
-use Rattle.runs.proofs.memory.base_of.Goals as goal
+use Rattle.runs.proofs.memory.slots_before.Goals as goal
 
 pub sum-requires-clause-fits : goal.sum-requires-clause-fits
 sum-requires-clause-fits c =

@@ -2,7 +2,7 @@ use Rattle.std.proofs.Common.{[]}
 use Rattle.terms.specs.Listed.{listed}
 use Rattle.protocol.specs.View.{lines_of, steps_of}
 use Rattle.cases.proofs.Blank.{nothing_needed, blank_played}
-use Rattle.cases.proofs.blank_run.run_blank.Goals as goal
+use Rattle.cases.proofs.blank_run.run_nothing.Goals as goal
 
 pub returns : goal.returns
 returns g c =
