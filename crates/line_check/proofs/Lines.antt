@@ -1,5 +1,5 @@
 -- What one turn of the check keeps.
-use Rattle.std.proofs.Common.{◌≡◌, ℕ, ◌+◌, ◌-◌, ◌<◌, true, false, List, [], ◌∷◌, ◌++◌, length, Some, None, Option, Ok, Err, sym, refl, ◌∙◌, subst}
+use Rattle.std.proofs.Common.{◌≡◌, ℕ, ◌+◌, ◌-◌, ◌<◌, true, false, List, [], ◌∷◌, ◌++◌, length, Some, None, Option, Ok, Err, Result, sym, refl, ◌∙◌, subst}
 use Rattle.names.specs.declared.names.Named.{Named}
 use Rattle.syntax.specs.declared.machine.TokenFault.{TokenFault}
 use Rattle.syntax.specs.declared.machine.TokenFault.TheVariants as tokens
@@ -13,7 +13,7 @@ use Rattle.syntax.specs.Uses.{use_after}
 use Rattle.syntax.proofs.Lines.{come_more, left, Sofar as Reads, smaller as reads_smaller}
 use Rattle.line_check.specs.declared.fault.LineFault.{LineFault}
 use Rattle.line_check.specs.declared.fault.LineFault.TheVariants.{Outside, Undeclared, DeclaredTwice, TooDeep}
-use Rattle.line_check.specs.Faults.{fault_after, Faultless, of_token}
+use Rattle.line_check.specs.Faults.{fault_after, first_fault, Faultless, of_token}
 use Rattle.line_check.specs.Check.{Grants, IsWrong, Refuses}
 use Rattle.line_check.proofs.Naming.{IsOfName, faults_of_names}
 use Rattle.line_check.proofs.Determined.{faultless_more}
@@ -87,3 +87,20 @@ module _ (ds : List (List ℕ × Named)) (text : List ℕ) (p q : ℕ) (m : Mach
       let reads : Reads text p q m = record { tokens = so.tokens; come = so.come; read = so.read } in
       let signs : Signs text q s a n = record { token = t; comes = comes; is = signed } in
       reads_smaller text p q m reads s a n signs k x told steps
+
+  -- the first thing that is wrong with the token, and the next token where nothing is
+  module _ (j : Result (Unit {0}) TokenFault) (steps : Steps m s j k) (u : NameUse) (used : (ts : List Tok) → HasRead m ts → GoesOn ts → u ≡ use_after ts) (r : Option LineFault)
+      (faulty : (ts : List Tok) → Come text p ts q → u ≡ use_after ts → r ≡ fault_after ds ts t) where
+    pub wrong : (f : LineFault) → first_fault j r ≡ Some f → Refuses ds text p (record { fault = f; place = a }) n
+    wrong f e = go j steps e
+      where
+        go : (j : Result (Unit {0}) TokenFault) → Steps m s j k → first_fault j r ≡ Some f → Refuses ds text p (record { fault = f; place = a }) n
+        go (Ok x) h e = misnamed x h u used r faulty f e
+        go (Err g) h e = outside g f (cc) h
+
+    pub right : first_fault j r ≡ None → Sofar ds text p n k × (length text - n + left k.mode < length text - q + left m.mode)
+    right e = go j steps e
+      where
+        go : (j : Result (Unit {0}) TokenFault) → Steps m s j k → first_fault j r ≡ None → Sofar ds text p n k × (length text - n + left k.mode < length text - q + left m.mode)
+        go (Ok x) h e = (one_more x h u used r faulty e, smaller x h)
+        go (Err g) h e = cc

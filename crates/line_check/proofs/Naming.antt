@@ -15,7 +15,7 @@ use Rattle.syntax.specs.Uses.{use_after}
 use Rattle.syntax.specs.Words.{of_word, may_be_name}
 use Rattle.line_check.specs.declared.fault.LineFault.{LineFault}
 use Rattle.line_check.specs.declared.fault.LineFault.TheVariants.{Outside, Undeclared, DeclaredTwice, TooDeep}
-use Rattle.line_check.specs.Faults.{is_earlier, is_party, name_fault, fault_after}
+use Rattle.line_check.specs.Faults.{is_again, is_earlier, is_party, name_fault, fault_after}
 
 name_or : (b : Bool) (k : Keyword) (t u : Tok) → (is_name (sign t) ≡ true → t ≡ u) → is_name (sign (cond b (keyword k) t)) ≡ true → cond b (keyword k) t ≡ u
 name_or true k t u f h = cc
@@ -38,10 +38,17 @@ word_is_name w =
     (name_or (bytes_eq w (codes "line")) (words.Line) _ (name w)
     (name_at_last (may_be_name w) w)))))))))
 
+-- where it does not count that a name stands earlier in its line, it alters nothing
+again_counts : (u : NameUse) (k : Option Named) (b : Bool) → name_fault u k (is_again u b) ≡ name_fault u k b
+again_counts Declared k b = refl
+again_counts Agent k b = refl
+again_counts Part k b = refl
+
 pub named_fault : (ds : List (List ℕ × Named)) (ts : List Tok) (w : List ℕ) (u : NameUse) (b : Bool)
-    → is_name (sign (of_word w)) ≡ true → u ≡ use_after ts → b ≡ is_earlier ts w → name_fault u (look_up ds w) b ≡ fault_after ds ts (of_word w)
+    → is_name (sign (of_word w)) ≡ true → u ≡ use_after ts → b ≡ is_again u (is_earlier ts w) → name_fault u (look_up ds w) b ≡ fault_after ds ts (of_word w)
 named_fault ds ts w u b is e f =
-    ap (λ z. name_fault z (look_up ds w) b) e ∙ ap (name_fault (use_after ts) (look_up ds w)) f ∙ ap (fault_after ds ts) (sym (word_is_name w is))
+    ap (name_fault u (look_up ds w)) f ∙ again_counts u (look_up ds w) (is_earlier ts w) ∙ ap (λ z. name_fault z (look_up ds w) (is_earlier ts w)) e
+    ∙ ap (fault_after ds ts) (sym (word_is_name w is))
 
 -- nothing but these is wrong with a name
 abbrev pub IsOfName : Option LineFault → Type 0

@@ -1,5 +1,5 @@
 -- What is wrong with a name.
-use Rattle.std.specs.Prelude.{◌≡◌, ℕ, Bool, true, false, ◌||◌, if◌then◌else◌, List, [], ◌∷◌, ◌++◌, Some, None, Option}
+use Rattle.std.specs.Prelude.{◌≡◌, ℕ, Bool, true, false, ◌||◌, if◌then◌else◌, List, [], ◌∷◌, ◌++◌, Some, None, Option, Ok, Err, Result}
 use Rattle.std.specs.Str.{bytes_eq}
 use Rattle.terms.specs.declared.node.Kind.{Kind}
 use Rattle.terms.specs.declared.node.Kind.TheVariants.{Party, Number, Shared, Public, Table, Function}
@@ -39,6 +39,12 @@ abbrev pub is_earlier : List Tok → List ℕ → Bool
 is_earlier [] w = false
 is_earlier (t ∷ ts) w = is_name_of t w || is_earlier ts w
 
+-- whether it counts for a use of a name that the name stands earlier in its line
+abbrev pub is_again : NameUse → Bool → Bool
+is_again Declared earlier = earlier
+is_again Agent earlier = false
+is_again Part earlier = false
+
 abbrev pub is_party : Kind → Bool
 is_party Party = true
 is_party Number = false
@@ -77,6 +83,11 @@ fault_after ds ts (closes s) = None
 fault_after ds ts tick = None
 fault_after ds ts end = None
 fault_after ds ts stray = None
+
+-- what is wrong with a token, by what its grammar and its name have wrong
+abbrev pub first_fault : Result (Unit {0}) TokenFault → Option LineFault → Option LineFault
+first_fault (Ok x) named = named
+first_fault (Err f) named = Some (of_token f)
 
 -- nothing is wrong with any of the tokens ts, which follow others in their line
 abbrev pub Faultless : List (List ℕ × Named) → List Tok → List Tok → Type 0

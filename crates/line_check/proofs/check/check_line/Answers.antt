@@ -6,16 +6,8 @@ use Rattle.syntax.specs.Uses.{use_after}
 use Rattle.syntax.specs.Check.{Comes, Come}
 use Rattle.syntax.specs.Words.{tok}
 use Rattle.syntax.proofs.Lines.{left}
-use Rattle.line_check.proofs.Lines.{outside, misnamed, one_more, smaller}
+use Rattle.line_check.proofs.Lines.{wrong, right}
 use Rattle.line_check.proofs.check.check_line.Goals as goal
-
-pub returns-in-Err-clause-checks : goal.returns-in-Err-clause-checks
-returns-in-Err-clause-checks c =
-    let i = c.loop-line.invariant in
-    let t = c.next_token-place in
-    let next = subst (λ z. Next z (pos_of c.loop-line.scanner) (lexeme t.result.0) t.result.1 (pos_of t.new.scanner)) i.text t.ensures.next in
-    let comes : Comes (text_of c.args.scanner.now) (pos_of c.loop-line.scanner) (tok (lexeme t.result.0)) t.result.1 (pos_of t.new.scanner) = record { lexeme = lexeme t.result.0; next = next; is = refl } in
-    outside (known c.args.names.now) (text_of c.args.scanner.now) _ _ c.loop-line.machine i.read c.loop-line-test.ensures _ _ _ comes c.sign_of_found.result c.sign_of_found.ensures c.step.new.self c.in-Err.fault c.into.result c.into.ensures c.in-Err.ensures.steps
 
 pub returns-in-Some-clause-checks : goal.returns-in-Some-clause-checks
 returns-in-Some-clause-checks c =
@@ -24,8 +16,8 @@ returns-in-Some-clause-checks c =
     let next = subst (λ z. Next z (pos_of c.loop-line.scanner) (lexeme t.result.0) t.result.1 (pos_of t.new.scanner)) i.text t.ensures.next in
     let comes : Comes (text_of c.args.scanner.now) (pos_of c.loop-line.scanner) (tok (lexeme t.result.0)) t.result.1 (pos_of t.new.scanner) = record { lexeme = lexeme t.result.0; next = next; is = refl } in
     let faulty = λ (ts : List Tok) (come : Come (text_of c.args.scanner.now) (pos_of c.args.scanner.now) ts (pos_of c.loop-line.scanner)) (e : c.name_use-usage.result ≡ use_after ts).
-    c.token_fault.ensures ts (subst (Come (text_of c.args.scanner.now) (pos_of c.args.scanner.now) ts) (sym c.pos-end.ensures.is) come) e in
-    misnamed (known c.args.names.now) (text_of c.args.scanner.now) _ _ c.loop-line.machine i.read c.loop-line-test.ensures _ _ _ comes c.sign_of_found.result c.sign_of_found.ensures c.step.new.self c.in_default.field-0 c.in_default.ensures.steps c.name_use-usage.result c.name_use-usage.ensures c.token_fault.result faulty c.in-Some.fault c.in-Some.is
+    c.token_fault-named.ensures ts (subst (Come (text_of c.args.scanner.now) (pos_of c.args.scanner.now) ts) (sym c.pos-end.ensures.is) come) e in
+    wrong (known c.args.names.now) (text_of c.args.scanner.now) _ _ c.loop-line.machine i.read c.loop-line-test.ensures _ _ _ comes c.sign_of_found.result c.sign_of_found.ensures c.step-judged.new.self c.step-judged.result c.step-judged.ensures.steps c.name_use-usage.result c.name_use-usage.ensures c.token_fault-named.result faulty c.in-Some.fault (sym c.first_fault.ensures ∙ c.in-Some.is)
 
 pub loop-line-smaller : goal.loop-line-smaller
 loop-line-smaller c =
@@ -33,10 +25,12 @@ loop-line-smaller c =
     let t = c.next_token-place in
     let next = subst (λ z. Next z (pos_of c.loop-line.scanner) (lexeme t.result.0) t.result.1 (pos_of t.new.scanner)) i.text t.ensures.next in
     let comes : Comes (text_of c.args.scanner.now) (pos_of c.loop-line.scanner) (tok (lexeme t.result.0)) t.result.1 (pos_of t.new.scanner) = record { lexeme = lexeme t.result.0; next = next; is = refl } in
-    let less = smaller (known c.args.names.now) (text_of c.args.scanner.now) _ _ c.loop-line.machine i.read c.loop-line-test.ensures _ _ _ comes c.sign_of_found.result c.sign_of_found.ensures c.step.new.self c.in_default.field-0 c.in_default.ensures.steps in
-    subst (λ z. length z - pos_of t.new.scanner + left c.step.new.self.mode < length (text_of c.loop-line.scanner) - pos_of c.loop-line.scanner + left c.loop-line.machine.mode)
+    let faulty = λ (ts : List Tok) (come : Come (text_of c.args.scanner.now) (pos_of c.args.scanner.now) ts (pos_of c.loop-line.scanner)) (e : c.name_use-usage.result ≡ use_after ts).
+    c.token_fault-named.ensures ts (subst (Come (text_of c.args.scanner.now) (pos_of c.args.scanner.now) ts) (sym c.pos-end.ensures.is) come) e in
+    let less = (right (known c.args.names.now) (text_of c.args.scanner.now) _ _ c.loop-line.machine i.read c.loop-line-test.ensures _ _ _ comes c.sign_of_found.result c.sign_of_found.ensures c.step-judged.new.self c.step-judged.result c.step-judged.ensures.steps c.name_use-usage.result c.name_use-usage.ensures c.token_fault-named.result faulty (sym c.first_fault.ensures ∙ c.in_default.is)).1 in
+    subst (λ z. length z - pos_of t.new.scanner + left c.step-judged.new.self.mode < length (text_of c.loop-line.scanner) - pos_of c.loop-line.scanner + left c.loop-line.machine.mode)
     (sym (t.ensures.text ∙ i.text))
-    (subst (λ z. length (text_of c.args.scanner.now) - pos_of t.new.scanner + left c.step.new.self.mode < length z - pos_of c.loop-line.scanner + left c.loop-line.machine.mode)
+    (subst (λ z. length (text_of c.args.scanner.now) - pos_of t.new.scanner + left c.step-judged.new.self.mode < length z - pos_of c.loop-line.scanner + left c.loop-line.machine.mode)
     (sym i.text)
     less)
 
@@ -47,8 +41,8 @@ loop-line-preserved c =
     let next = subst (λ z. Next z (pos_of c.loop-line.scanner) (lexeme t.result.0) t.result.1 (pos_of t.new.scanner)) i.text t.ensures.next in
     let comes : Comes (text_of c.args.scanner.now) (pos_of c.loop-line.scanner) (tok (lexeme t.result.0)) t.result.1 (pos_of t.new.scanner) = record { lexeme = lexeme t.result.0; next = next; is = refl } in
     let faulty = λ (ts : List Tok) (come : Come (text_of c.args.scanner.now) (pos_of c.args.scanner.now) ts (pos_of c.loop-line.scanner)) (e : c.name_use-usage.result ≡ use_after ts).
-    c.token_fault.ensures ts (subst (Come (text_of c.args.scanner.now) (pos_of c.args.scanner.now) ts) (sym c.pos-end.ensures.is) come) e in
+    c.token_fault-named.ensures ts (subst (Come (text_of c.args.scanner.now) (pos_of c.args.scanner.now) ts) (sym c.pos-end.ensures.is) come) e in
     record {
-      read = one_more (known c.args.names.now) (text_of c.args.scanner.now) _ _ c.loop-line.machine i.read c.loop-line-test.ensures _ _ _ comes c.sign_of_found.result c.sign_of_found.ensures c.step.new.self c.in_default.field-0 c.in_default.ensures.steps c.name_use-usage.result c.name_use-usage.ensures c.token_fault.result faulty c.in_default-token_fault.is;
+      read = (right (known c.args.names.now) (text_of c.args.scanner.now) _ _ c.loop-line.machine i.read c.loop-line-test.ensures _ _ _ comes c.sign_of_found.result c.sign_of_found.ensures c.step-judged.new.self c.step-judged.result c.step-judged.ensures.steps c.name_use-usage.result c.name_use-usage.ensures c.token_fault-named.result faulty (sym c.first_fault.ensures ∙ c.in_default.is)).0;
       text = t.ensures.text ∙ i.text;
     }
