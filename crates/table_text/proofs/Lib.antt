@@ -1,0 +1,15 @@
+pub mod Tokens
+pub mod Paired
+pub mod Keys
+pub mod Terms
+pub mod Collecting
+pub mod Naming
+pub mod Reading
+pub mod Calling
+pub mod Heading
+pub mod Looping
+pub mod Determined
+pub mod Along
+pub mod Law
+pub mod Standing
+pub mod Written

@@ -1,0 +1,10 @@
+pub mod Calls
+pub mod Ahead
+pub mod Tables
+pub mod Lines
+pub mod Keys
+pub mod Collected
+pub mod Openings
+pub mod Law
+pub mod Standing
+pub mod Written
