@@ -1,0 +1,3 @@
+mod Below
+mod Letters
+mod Moves
