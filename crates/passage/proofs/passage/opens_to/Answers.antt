@@ -1,5 +1,5 @@
-use Rattle.rehearse.proofs.Arriving.{opened_is}
-use Rattle.rehearse.proofs.passage.opens_to.Goals as goal
+use Rattle.passage.proofs.Arriving.{opened_is}
+use Rattle.passage.proofs.passage.opens_to.Goals as goal
 
 pub returns-in-Ok : goal.returns-in-Ok
 returns-in-Ok g c =

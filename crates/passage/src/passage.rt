@@ -1,6 +1,6 @@
 // The rehearsal itself, on any provider.
 ghost use Rattle.std.specs.Prelude.{◌≡◌, true, IfOk};
-ghost use Rattle.rehearse.specs.Opening.{OpensTo};
+ghost use Rattle.passage.specs.Opening.{OpensTo};
 
 use provider::{Handle, Provider, ProviderError, reopen};
 use terms::Kind;

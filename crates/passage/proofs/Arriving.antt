@@ -6,7 +6,7 @@ use Rattle.provider.specs.Algebra.{Algebra, shared, Mates, Seals}
 use Rattle.provider.specs.Meaning.{Meaning, stands, on, Answers, Same, Holds}
 use Rattle.provider.specs.Reopening.{Reopened}
 use Rattle.provider.proofs.Steps.{is_some}
-use Rattle.rehearse.specs.Opening.{Opened}
+use Rattle.passage.specs.Opening.{Opened}
 
 -- two handles that stand for one value are the same
 same_yes : {X : Type 0} (is : List (ℕ × X)) (a b : ℕ) (x : X) (r : Bool) → stands is a ≡ Some x → stands is b ≡ Some x → Same is a b r → r ≡ true

@@ -1,7 +1,7 @@
 use Rattle.std.proofs.Common.{◌≡◌, cond, Some, None, subst, lit≤}
 use Rattle.provider.specs.Meaning.{is_atom, stands}
-use Rattle.rehearse.proofs.Arriving.{opens_again, arrives}
-use Rattle.rehearse.proofs.passage.rehearse.Goals as goal
+use Rattle.passage.proofs.Arriving.{opens_again, arrives}
+use Rattle.passage.proofs.passage.rehearse.Goals as goal
 
 pub returns : goal.returns
 returns g c =
