@@ -5,7 +5,7 @@
 
 PROGRAM is the console as it was proved and linked: `rt run` in crates/console
 leaves it at crates/console/out/console. LISTS is how many lists of calls are
-tried, 3,200 if it is not said.
+tried, at least 100, and 3,200 if it is not said.
 
 Each list begins with `provider bytes` and comes of a seed of its own. Many
 lists go through one run of the program, and each answer line is compared with

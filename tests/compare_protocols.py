@@ -5,7 +5,7 @@
 
 PROGRAM is the console as it was proved and linked: `rt run` in crates/console
 leaves it at crates/console/out/console. LISTS is how many lists of calls are
-tried, 3,000 if it is not said.
+tried, at least 100, and 3,000 if it is not said.
 
 First come some examples whose answers are written down by hand. Each list then
 comes of a seed of its own and has a run of the program to itself, since sessions

@@ -5,7 +5,7 @@
 
 PROGRAM is the console as it was proved and linked: `rt run` in crates/console
 leaves it at crates/console/out/console. LISTS is how many lists of calls are
-tried, 3,000 if it is not said.
+tried, at least 100, and 3,000 if it is not said.
 
 Each list comes of a seed of its own and chooses a new symbolic provider; some
 choose now one provider, now the other. Many lists go through one run of the
