@@ -33,6 +33,13 @@ nth_known n [] k l a e = let z : ◌≡◌ {A = ℕ} 0 1 = cc in absurd (omega a
 nth_known n (x ∷ ls) zero l a e = let p : x ≡ l = cc in subst (λ (y : Line). OpBelow n y.op) p a.0.1
 nth_known n (x ∷ ls) (suc k) l a e = nth_known n ls k l a.1 e
 
+-- the terms in number order are numbered
+pub numbered_nth : (T : ℕ → Term) (terms : List Term) → ((i : ℕ) → i < length terms → nth terms i ≡ Some (T i)) → Numbered terms T (length terms)
+numbered_nth T terms h t i =
+    let w = in_nth terms t i in
+    let l = nth_below terms w.0 t w.1 in
+    (w.0, l, some_is (sym (h w.0 l) ∙ w.1))
+
 -- what is handed goes on standing for its term
 module _ {X : Type 0} (f : Algebra X) (T : ℕ → Term) (is is' : List (ℕ × X)) (kept : Kept is is') where
   pub loaded_kept : (n : ℕ) (readings : List ℕ) → Loaded f is T n readings → Loaded f is' T n readings

@@ -6,13 +6,14 @@ use Rattle.provider.specs.Meaning.{stands, Answers}
 use Rattle.byte_provider.specs.declared.store.ByteProvider.{ByteProvider}
 use Rattle.byte_provider.specs.declared.plan.Plan.{Plan}
 use Rattle.byte_provider.specs.declared.span.Span.{Span}
+use Rattle.byte_provider.specs.Held.{no_span}
 use Rattle.byte_provider.specs.Outcome.{Done}
 use Rattle.byte_provider.specs.Planned.{PlanFor}
 use Rattle.byte_provider.specs.Plans.{written, added}
 use Rattle.byte_provider.specs.State.{bytes_of, count_of, issued_of, issued_below, made_of, fits_of, meaning_of, has_room, free, stored, room}
 use Rattle.byte_provider.specs.Values.{byte_algebra}
 use Rattle.byte_provider.specs.Writing.{Written}
-use Rattle.byte_provider.specs.Issued.{below, length_issued, issued_more, issued_next}
+use Rattle.byte_provider.specs.Issued.{below, length_issued, issued_more, issued_pushed}
 
 -- the next handle for a value is what the making answers
 module _ (s s' : ByteProvider) (m : Making) (x : List ℕ) (makes : made_of s m ≡ Some x) (fits : fits_of s m ≡ true) (is : issued_of s' ≡ (count_of s, x) ∷ issued_of s) (bytes : bytes_of s' ≡ bytes_of s ++ stored m x) where
@@ -44,10 +45,10 @@ module _ (s s' : ByteProvider) (plan : Plan) (p : Span) (w : Written s.table pla
   stored_issued =
       let spans = items s.spans in
       ap (λ v. issued_below (bytes_of s') v (length v)) next
-      ∙ issued_next (bytes_of s') spans p
+      ∙ issued_pushed (bytes_of s') spans p
       ∙ ap (λ v. (count_of s, v) ∷ issued_below (bytes_of s') spans (count_of s)) w.value
       ∙ ap (λ v. (count_of s, written (bytes_of s) plan) ∷ v)
-      (ap (λ v. issued_below v spans (count_of s)) w.adds.bytes ∙ issued_more (bytes_of s) spans (added (bytes_of s) plan) (count_of s) (omega arith) s.within)
+      (ap (λ v. issued_below v spans (count_of s)) w.adds.bytes ∙ issued_more (bytes_of s) spans (added (bytes_of s) plan) (count_of s) (λ k h. s.within k no_span h))
 
   pub stored_plan : (m : Making) → PlanFor s m plan → Done s m (Ok (count_of s)) s'
   stored_plan m f =

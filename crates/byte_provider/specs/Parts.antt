@@ -1,7 +1,7 @@
 -- Spans of a list of bytes.
 use Rattle.std.specs.Prelude.{◌≡◌, ℕ, ◌+◌, ◌-◌, ◌<◌, ◌≤◌, List, [], ◌∷◌, ◌++◌, length, take, drop, slice_index}
 use Rattle.std.proofs.Common.{sym, ap, ◌∙◌, arith, length-take, length-drop, get_or-drop, get_or-take, take-take, drop-drop}
-use Rattle.std.proofs.Math.Seq.{take-length}
+use Rattle.std.proofs.Math.Seq.{drop-append_seam, take-length}
 use Rattle.std.proofs.lemmas.List.{take_more, drop-take, take-append-le, drop-append-le}
 use Rattle.byte_provider.specs.declared.span.Span.{Span}
 use Rattle.byte_provider.specs.Held.{part, Inside}
@@ -27,6 +27,10 @@ part_front xs ys p h =
     let a : p.start ≤ length xs = omega arith in
     let b : p.len ≤ length (drop p.start xs) = simp length-drop (omega arith) in
     ap (take p.len) (drop-append-le p.start xs ys a) ∙ take-append-le p.len (drop p.start xs) ys b
+
+-- the bytes at the end are the last part
+pub part_end : (xs ys : List ℕ) → part (xs ++ ys) (record { start = length xs; len = length ys }) ≡ ys
+part_end xs ys = ap (take (length ys)) (drop-append_seam xs ys) ∙ take-length ys
 
 -- a part of a part
 pub part_part : (xs : List ℕ) (p : Span) (d n : ℕ) → d + n ≤ p.len → take n (drop d (part xs p)) ≡ part xs (record { start = p.start + d; len = n })

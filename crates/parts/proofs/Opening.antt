@@ -87,6 +87,9 @@ starts_at [] k l h e = absurd (some_none None e refl)
 starts_at (x ∷ s) zero l h e = subst (λ (z : Line). Starts z.op) (some_is e) (opens_starts x.op (opening s) h)
 starts_at (x ∷ s) (suc k) l h e = starts_at s k l (opens_low x.op (opening s) k h) e
 
+pub opening_starts : (s : Script) → Each Starts s 0 (opening s)
+opening_starts s k l f h e = starts_at s k l h e
+
 -- what does not open leaves the opening as it is
 pub opening_before : (s w : Script) → opening w ≡ 0 → opening (s ++ w) ≡ opening s
 opening_before [] w e = e

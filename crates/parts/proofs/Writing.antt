@@ -125,6 +125,15 @@ starts_built sealed i j = tt
 starts_built digest i j = tt
 starts_built entry i j = tt
 
+pub knows_starts : (s : Script) (t : Term) → Grows (Writes Starts) s (knows s t)
+knows_starts s t = go (composes s t)
+  where
+    go : (b : Bool) → Grows (Writes Starts) s (cond b s (saturate (s then line (GIVEN t) (Some t))))
+    go true = stays
+    go false =
+        grows_join (Writes Starts) (grows_one (Writes Starts) tt)
+        (saturate_writes Starts starts_built (λ i. tt) (λ i. tt) (λ i j. tt) (s then line (GIVEN t) (Some t)))
+
 -- sending
 
 prepares_built : (f : Form) (i j : ℕ) → Prepares (builder f i j)

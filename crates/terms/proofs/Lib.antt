@@ -2,6 +2,7 @@ pub mod Trees
 pub mod Formed
 pub mod Grow
 pub mod Insert
+pub mod Determined
 pub mod Composed
 pub mod Marked
 pub mod Missing

@@ -5,7 +5,7 @@ ghost use Rattle.rules.specs.Compose.{Composed, compose};
 ghost use Rattle.rules.specs.Walk.{compared, walk};
 ghost use Rattle.terms.specs.Listed.{listed};
 ghost use Rattle.terms.specs.Tree.{tree};
-ghost use Rattle.scripts.specs.Composing.{Grows, IsTerm, NamesTerms, OpNames, view};
+ghost use Rattle.scripts.specs.Composing.{Grows, HoldsTerms, IsTerm, Lacks, NamesTerms, OpNames, view};
 ghost use Rattle.scripts.specs.Lines.{op_of};
 ghost use Rattle.scripts.specs.Writing.{Unlocks, Writes, brought};
 
@@ -31,6 +31,13 @@ impl Script {
         Ok(())
     }
 
+    // What is missing for an opener; whether a slot holds it is not asked.
+    fn missing_opener(&self, terms: &Terms<512>, opener: TermId) -> Option<TermId>
+        ensures { let ts = listed terms.now in IsTerm ts opener → HoldsTerms ts self.now → Lacks ts self.now opener result }
+    {
+        self.missing(terms, opener)
+    }
+
     // Composes what opens the terms that a key seals, if it can be composed.
     fn unlock(&mut self, terms: &Terms<512>, key: TermId) -> Result<Option<Slot>, ScriptError>
         ensures grows { Grows self.old self.new }
@@ -39,7 +46,7 @@ impl Script {
         let Some(opener) = terms.opener(key) else {
             return Ok(None);
         };
-        if self.missing(terms, opener).is_some() {
+        if self.missing_opener(terms, opener).is_some() {
             return Ok(None);
         }
         let slot = self.put(terms, opener)?;

@@ -49,8 +49,11 @@ impl<const N: usize> Terms<N> {
         ensures first { Misses (listed self.now) held.now id result }
         ensures lacking { Lacking (listed self.now) held.now id result }
     {
+        if id >= self.len() {
+            return None;
+        }
         let judged = self.composable(held);
-        if id >= self.len() || judged.contains(id) {
+        if judged.contains(id) {
             return None;
         }
         let mut lacking = id;

@@ -27,14 +27,23 @@ impl<const N: usize> Terms<N> {
         self.nodes.len()
     }
 
-    // The record of a number, if it is the number of a term; the number stands for the tree that it makes of the trees of its parts.
+    // The record at a place of the list.
     #[tactic(auto, using(crate::proofs::Listed::got))]
-    pub fn get(&self, id: TermId) -> Option<TermNode>
+    fn record(&self, id: TermId) -> Option<TermNode>
         ensures reads { Reads (listed self.now) id result }
         ensures stands { IfSome result (λ node. tree (listed self.now) id ≡ tree_of node (tree (listed self.now))) }
         ensures formed { id < length (listed self.now) → Formed (tree (listed self.now) id) }
     {
         self.nodes.get(id)
+    }
+
+    // The record of a number, if it is the number of a term; the number stands for the tree that it makes of the trees of its parts.
+    pub fn get(&self, id: TermId) -> Option<TermNode>
+        ensures reads { Reads (listed self.now) id result }
+        ensures stands { IfSome result (λ node. tree (listed self.now) id ≡ tree_of node (tree (listed self.now))) }
+        ensures formed { id < length (listed self.now) → Formed (tree (listed self.now) id) }
+    {
+        self.record(id)
     }
 
     // The records in the order of their numbers.

@@ -16,8 +16,8 @@ returns-in_err-freshen c =
     let q = err_from_is_err_and c.from_residual.result c.from_residual.ensures.1 in
     λ k m.
     let inv = c.loop-name.invariant k m in
-    rw (q.1, q.2) (freshened_stop ts c.args.fresh.now i li _ c.loop-name.script inv.1 c.freshen.new.script c.in_err-freshen.field-0.0 (sym c.contains.ensures ∙ c.if-contains.true)
-    (c.in_err-freshen.ensures li (m i li (sym c.contains.ensures ∙ c.if-contains.true)) inv.0))
+    rw (q.1, q.2) (freshened_stop ts c.args.fresh.now i li _ c.loop-name.script inv.1 c.freshen.new.script c.in_err-freshen.field-0.0 (sym c.contains.ensures.is ∙ c.if-contains.true)
+    (c.in_err-freshen.ensures li (m i li (sym c.contains.ensures.is ∙ c.if-contains.true)) inv.0))
 
 pub loop-name-preserved : goal.loop-name-preserved
 loop-name-preserved c =
@@ -29,9 +29,9 @@ loop-name-preserved c =
     let inv = c.loop-name.invariant k m in
     elim c.if-contains.branch [
       | then-contains+in_ok-freshen w ↦
-          let d = w.in_ok-freshen.ensures li (m i li (sym c.contains.ensures ∙ w.if-contains.true)) inv.0 in
-          rw w.script-is (d.1, freshened ts f i li _ c.loop-name.script inv.1 w.freshen.new.script (sym c.contains.ensures ∙ w.if-contains.true) d.0)
-      | else-contains w ↦ rw w.script-is (inv.0, passed ts f i li _ c.loop-name.script inv.1 (sym c.contains.ensures ∙ w.if-contains.false))
+          let d = w.in_ok-freshen.ensures li (m i li (sym c.contains.ensures.is ∙ w.if-contains.true)) inv.0 in
+          rw w.script-is (d.1, freshened ts f i li _ c.loop-name.script inv.1 w.freshen.new.script (sym c.contains.ensures.is ∙ w.if-contains.true) d.0)
+      | else-contains w ↦ rw w.script-is (inv.0, passed ts f i li _ c.loop-name.script inv.1 (sym c.contains.ensures.is ∙ w.if-contains.false))
     ]
 
 pub returns : goal.returns

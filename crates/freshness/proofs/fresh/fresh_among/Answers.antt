@@ -16,7 +16,7 @@ pub loop-term-preserved : goal.loop-term-preserved
 loop-term-preserved c =
     let n = c.loop-term.term in
     let is : (can_be_fresh (node_at (listed c.args.terms.now) n) && (get_or c.args.sent.now n false && not (get_or c.args.used.now n false))) ≡ c.is_fresh.result =
-    rw (← c.nodes-node-items.ensures, ← c.contains.ensures, ← c.contains-in-loop-term.ensures) (sym c.is_fresh.ensures) in
+    rw (← c.nodes-node-items.ensures, ← c.contains.ensures.is, ← c.contains-in-loop-term.ensures.is) (sym c.is_fresh.ensures) in
     elim c.if-is_fresh.branch [
       | then-is_fresh w ↦ rw w.fresh-is (marked_in 512 512 _ [] c.loop-term.fresh n c.loop-term.invariant (is ∙ w.if-is_fresh.true) w.insert.new.self w.insert.ensures.marks w.insert.ensures.size)
       | else-is_fresh w ↦ rw w.fresh-is (marked_out 512 512 _ [] c.loop-term.fresh n c.loop-term.invariant (is ∙ w.if-is_fresh.false))

@@ -13,11 +13,11 @@ loop-term-preserved-in-loop-term c =
     let t = c.args.terms.now in
     passed_on (listed t) c.args.marks.now (orderly t) (listed_few t) c.loop-term.occurring c.loop-term.term _
     (omega arith) (omega arith) c.loop-term.invariant
-    (elim c.then-contains.branch [ then-contains-via-then-contains w ↦ inl (sym c.contains.ensures ∙ w.if-contains.true) | then-contains-via-else-contains+then-contains-2 w ↦ inr (sym w.contains-else-contains.ensures ∙ w.if-contains-2.true) ])
+    (elim c.then-contains.branch [ then-contains-via-then-contains w ↦ inl (sym c.contains.ensures.is ∙ w.if-contains.true) | then-contains-via-else-contains+then-contains-2 w ↦ inr (sym w.contains-else-contains.ensures.is ∙ w.if-contains-2.true) ])
     c.mark_whole.new.marks c.mark_whole.ensures
 
 pub loop-term-preserved : goal.loop-term-preserved
 loop-term-preserved c =
     let t = c.args.terms.now in
     passed_over (listed t) c.args.marks.now (orderly t) (listed_few t) c.loop-term.occurring c.loop-term.term _
-    (omega arith) (omega arith) c.loop-term.invariant (sym c.contains.ensures ∙ c.if-contains.false) (sym c.contains-else-contains.ensures ∙ c.if-contains-2.false)
+    (omega arith) (omega arith) c.loop-term.invariant (sym c.contains.ensures.is ∙ c.if-contains.false) (sym c.contains-else-contains.ensures.is ∙ c.if-contains-2.false)

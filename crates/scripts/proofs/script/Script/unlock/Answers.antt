@@ -16,7 +16,7 @@ returns-then-is_some-clause-unlocks c = λ l k a.
     let ts = c.args.terms.now in
     let o = c.in-Some in
     opener_missing (listed ts) (orderly ts) c.args.self.now c.args.key l k a o.opener o.ensures
-    c.missing.result (sym c.if-is_some.ensures) (c.missing.ensures o.ensures.2 (named_known _ _ a))
+    c.missing_opener.result (sym c.if-is_some.ensures) (c.missing_opener.ensures o.ensures.2 (named_known _ _ a))
 
 pub returns-in_err-slot-clause-unlocks : goal.returns-in_err-slot-clause-unlocks
 returns-in_err-slot-clause-unlocks c = λ l k a.
@@ -25,7 +25,7 @@ returns-in_err-slot-clause-unlocks c = λ l k a.
     let o = c.in-Some in
     let q = err_from_is_err_and c.from_residual.result c.from_residual.ensures.1 in
     let known = named_known _ _ a in
-    let composed = lacks_none (listed ts) s o.opener c.missing.result (sym c.if-is_some.ensures) (c.missing.ensures o.ensures.2 known) in
+    let composed = lacks_none (listed ts) s o.opener c.missing_opener.result (sym c.if-is_some.ensures) (c.missing_opener.ensures o.ensures.2 known) in
     rw (q.1, q.2) (opener_stopped (listed ts) (orderly ts) s c.args.key l k a o.opener o.ensures c.in_err-slot.field-0.0 c.put.new.self composed (c.in_err-slot.ensures.puts o.ensures.2 known))
 
 pub returns-clause-unlocks : goal.returns-clause-unlocks
