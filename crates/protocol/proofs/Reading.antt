@@ -27,6 +27,11 @@ nth_map f [] n x e = absurd (some_none None e refl)
 nth_map f (y ∷ xs) zero x e = ap (λ z. Some (f z)) (some_is e)
 nth_map f (y ∷ xs) (suc n) x e = nth_map f xs n x e
 
+pub nth_map_none : {A B : Type 0} (f : A → B) (xs : List A) (n : ℕ) → nth xs n ≡ None → nth (map f xs) n ≡ None
+nth_map_none f [] n e = refl
+nth_map_none f (y ∷ xs) zero e = absurd (some_none (Some y) refl e)
+nth_map_none f (y ∷ xs) (suc n) e = nth_map_none f xs n e
+
 -- what is at a place
 pub nth_is : {A : Type 0} (xs : List A) (n : ℕ) (x d : A) → nth xs n ≡ Some x → get_or xs n d ≡ x
 nth_is [] n x d e = absurd (some_none None e refl)

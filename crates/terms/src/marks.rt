@@ -5,7 +5,7 @@ use crate::node::TermId;
 use std::marker::Model;
 
 // What a contract calls its value is one flag for each number.
-#[derive(Clone, Copy, PartialEq, Eq, Debug)]
+#[derive(Clone, Copy, PartialEq, Eq, PartialOrd, Ord, Hash, Debug, Default)]
 pub struct Marks<const N: usize> {
     cells: [bool; N],
 }
@@ -33,6 +33,7 @@ impl<const N: usize> Marks<N> {
     pub fn contains(&self, term: TermId) -> bool
         ensures is { result ≡ slice_index_or self.now term false }
         ensures past { N ≤ term → result ≡ false }
+        ensures room { length self.now ≡ N }
     {
         self.cells.get(term).copied().unwrap_or(false)
     }
@@ -55,5 +56,14 @@ impl<const N: usize> From<[bool; N]> for Marks<N> {
     // The numbers whose flags are set.
     fn from(flags: [bool; N]) -> Marks<N> {
         Marks { cells: flags }
+    }
+}
+
+impl<const N: usize> From<Marks<N>> for [bool; N] {
+    ghost from_gives = { λ marks flags. flags ≡ marks };
+
+    // A flag for each number.
+    fn from(marks: Marks<N>) -> [bool; N] {
+        marks.cells
     }
 }
